@@ -1,0 +1,18 @@
+use mathlib.Core.Path.{_∙_}
+use native.Mathlib.Omega.{arith}
+use Rattle.ie_catalogue.proofs.Searching.{finds-more, finds-past, searched-here, searched-none}
+use Rattle.ie_catalogue.proofs.search.find.Needs as need
+use Rattle.ie_catalogue.proofs.search.find.Needs.{in-Some·else-covers, in-rest}
+
+pub returns-then-covers : need.returns-then-covers
+returns-then-covers g c =
+    searched-here _ (c .loop-position .position) (c .args .octet) (c .in-Some .entry) (c .loop-position .inv) (c .in-Some .ensures tt) (c .if-covers .ensures tt)
+
+pub loop-position-again : need.loop-position-again
+loop-position-again g c =
+    elim (c .match-entry .came) [
+      in-Some·else-covers w ↦ finds-more _ (c .loop-position .position) (c .args .octet) (w .in-Some .entry) (w .in-Some .ensures tt) (w .if-covers .ensures tt) ∙ c .loop-position .inv |
+      in-rest w ↦ finds-past _ (c .loop-position .position) (c .args .octet) (w .in-rest .ensures tt) ∙ c .loop-position .inv ]
+
+pub returns : need.returns
+returns g c = rw (c .count-count .ensures) (searched-none _ (c .loop-position .position) (c .args .octet) (c .loop-position .inv) (omega arith))

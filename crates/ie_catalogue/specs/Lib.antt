@@ -1,0 +1,9 @@
+pub mod Refusals
+pub mod Bounds
+pub mod Entries
+pub mod Search
+pub mod Spans
+pub mod Adding
+pub mod Lending
+pub mod Views
+pub mod Few

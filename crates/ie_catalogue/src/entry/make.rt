@@ -1,0 +1,68 @@
+// How an entry comes to be, and which octets it covers.
+ghost use mathlib.Core.Path.{_≡_};
+ghost use Rattle.ie_catalogue.specs.Entries.{making, meant, absent, covers};
+ghost use Rattle.ie_catalogue.specs.Refusals.{answered, entry-refusal};
+ghost use Rattle.ie_catalogue.specs.Spans.{span};
+use crate::bounds::row_fits;
+use crate::entry::Entry;
+use crate::refusal::EntryRefusal;
+use crate::row::EntryRow;
+use crate::row::Format;
+
+impl Entry {
+    // The entry of a row, or refusal 7 where a field is out of its bounds.
+    pub fn new(row: EntryRow) -> Result<Entry, EntryRefusal>
+        ensures { λ r. ⌜ answered entry-refusal r ≡ making row ⌝ }
+    {
+        if row_fits(&row) {
+            Ok(Entry { row: Some(row) })
+        } else {
+            Err(EntryRefusal::OutOfBounds)
+        }
+    }
+
+    pub(crate) fn absent() -> Entry
+        ensures { λ r. ⌜ r ≡ absent ⌝ }
+    {
+        Entry { row: None }
+    }
+
+    // What a lent row means: an ill-formed one means the absent entry.
+    pub(crate) fn meant(row: &EntryRow) -> Entry
+        ensures { λ r. ⌜ r ≡ meant (now (row .entry)) ⌝ }
+    {
+        if row_fits(row) {
+            Entry { row: Some(*row) }
+        } else {
+            Entry { row: None }
+        }
+    }
+
+    pub fn covers(&self, octet: u8) -> bool
+        ensures { λ r. ⌜ r ≡ covers (now (self .entry)) octet ⌝ }
+    {
+        match self.row {
+            Some(row) => match row.format {
+                Format::TvHalf => octet / 16 == row.iei,
+                _ => octet == row.iei,
+            },
+            None => false,
+        }
+    }
+
+    // The first octet that the entry covers, and the end of those that it covers.
+    pub(crate) fn span(&self) -> (u16, u16)
+        ensures { λ r. ⌜ r ≡ span (now (self .entry)) ⌝ }
+    {
+        match self.row {
+            Some(row) => {
+                let iei = row.iei as u16;
+                match row.format {
+                    Format::TvHalf => (iei * 16, iei * 16 + 16),
+                    _ => (iei, iei + 1),
+                }
+            }
+            None => (0, 0),
+        }
+    }
+}

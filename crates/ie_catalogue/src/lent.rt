@@ -1,0 +1,50 @@
+// A catalogue over lent rows, of which one that is ill-formed means the absent entry.
+ghost use mathlib.Core.Path.{_≡_};
+ghost use mathlib.Core.List.{map};
+ghost use lib.ListN.{length, take};
+ghost use denote.Ref.{now};
+ghost use Rattle.ie_catalogue.specs.Entries.{meant};
+ghost use Rattle.ie_catalogue.specs.Few.{few-mapped, few-taken};
+ghost use Rattle.ie_catalogue.specs.Lending.{lending};
+ghost use Rattle.ie_catalogue.specs.Refusals.{answered, lend-refusal};
+use crate::catalogue::Catalogue;
+use crate::entry::Entry;
+use crate::refusal::LendRefusal;
+use crate::row::EntryRow;
+
+// Only `lend` makes one, so there are at most 64 rows; a type that borrows holds no invariant, hence the 64 below.
+#[derive(Clone, Copy)]
+pub struct LentRows<'a> {
+    rows: &'a [EntryRow],
+}
+
+impl<'a> LentRows<'a> {
+    // Refusal 6 where there are more than 64 rows.
+    pub fn lend(rows: &'a [EntryRow]) -> Result<LentRows<'a>, LendRefusal>
+        ensures { λ r. ⌜ answered lend-refusal r ≡ lending (length (now (rows .entry))) (record { rows = rows .entry }) ⌝ }
+    {
+        if rows.len() <= 64 {
+            Ok(LentRows { rows })
+        } else {
+            Err(LendRefusal::TooMany)
+        }
+    }
+}
+
+pub impl Catalogue for LentRows<'_> as LentRowsCatalogue {
+    ghost entries = { λ l. map meant (take 64 (now (l .rows))) };
+
+    ghost few = { λ l. few-mapped meant _ (few-taken (now (l .rows))) };
+
+    fn count(&self) -> usize {
+        self.rows.len().min(64)
+    }
+
+    fn entry(&self, position: usize) -> Option<Entry> {
+        if position < self.rows.len().min(64) {
+            Some(Entry::meant(&self.rows[position]))
+        } else {
+            None
+        }
+    }
+}

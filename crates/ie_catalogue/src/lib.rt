@@ -1,0 +1,10 @@
+// What is known: catalogues of information elements.
+mod bounds;
+pub mod catalogue;
+pub mod checked;
+pub mod entry;
+pub mod lent;
+pub mod refusal;
+pub mod row;
+pub mod search;
+pub mod views;
