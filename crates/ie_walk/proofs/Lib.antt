@@ -1,0 +1,5 @@
+pub mod Cutting
+pub mod Stepping
+pub mod Running
+pub mod Dividing
+pub mod Laying

@@ -1,0 +1,9 @@
+pub mod Frames
+pub mod Faults
+pub mod Shapes
+pub mod Cuts
+pub mod Reading
+pub mod Walks
+pub mod Runs
+pub mod Grammar
+pub mod Totals

@@ -1,0 +1,18 @@
+// An information element as parts of the message that it stands in.
+
+// `whole` begins with the IEI octet; `value` is what follows the head, and its end.
+#[derive(Clone, Copy)]
+pub struct Ie<'m> {
+    pub iei: u8,
+    pub place: usize,
+    pub whole: &'m [u8],
+    pub value: &'m [u8],
+}
+
+// What a step gives: an IE that the catalogue knows at a position, or an unknown one.
+#[derive(Clone, Copy)]
+pub enum Token<'m> {
+    Known { position: usize, ie: Ie<'m> },
+    Skippable(Ie<'m>),
+    Demanding(Ie<'m>),
+}
