@@ -1,11 +1,10 @@
 // A catalogue over lent rows, of which one that is ill-formed means the absent entry.
 ghost use mathlib.Core.Path.{_≡_};
-ghost use mathlib.Core.List.{map};
-ghost use lib.ListN.{length, take};
+ghost use lib.ListN.{length};
 ghost use denote.Ref.{now};
 ghost use Rattle.ie_catalogue.specs.Entries.{meant};
 ghost use Rattle.ie_catalogue.specs.Few.{few-mapped, few-taken};
-ghost use Rattle.ie_catalogue.specs.Lending.{lending};
+ghost use Rattle.ie_catalogue.specs.Lending.{lending, lent-entries};
 ghost use Rattle.ie_catalogue.specs.Refusals.{answered, lend-refusal};
 use crate::catalogue::Catalogue;
 use crate::entry::Entry;
@@ -32,7 +31,7 @@ impl<'a> LentRows<'a> {
 }
 
 pub impl Catalogue for LentRows<'_> as LentRowsCatalogue {
-    ghost entries = { λ l. map meant (take 64 (now (l .rows))) };
+    ghost entries = { lent-entries };
 
     ghost few = { λ l. few-mapped meant _ (few-taken (now (l .rows))) };
 

@@ -17,13 +17,13 @@ use Rattle.std.specs.declared.result.Result.{Result}
 use Rattle.std.specs.declared.result.Result.the-variants.{Ok, Err}
 use Rattle.ie_walk.specs.Cuts.{CutResult, head, needed, cut-of}
 use Rattle.ie_walk.specs.Faults.{truncated}
-use Rattle.ie_walk.specs.Reading.{Reading, shape, kind}
+use Rattle.ie_walk.specs.Reading.{Reading, Kind, known, skippable, demanding, shape, kind}
 use Rattle.ie_walk.specs.Walks.{Found, stepped, found-as, part-of}
 use Rattle.ie_walk.specs.Runs.{Run, run, after-token, walked}
 use Rattle.ie_catalogue.specs.Refusals.{Refusal}
 use Rattle.ie_walk.specs.declared.divide.Totals.{Totals}
 use Rattle.ie_walk.specs.declared.divide.Division.{Division}
-use Rattle.ie_walk.specs.Totals.{no-totals, counted, counted-in, Divided}
+use Rattle.ie_walk.specs.Totals.{count, count-by, counts, no-totals, counted, counted-in, ies-of, octets-of, Divided}
 use Rattle.ie_walk.specs.Grammar.{IsIe, Unfinished, Divides, IsDivision, end-to-end, token-at, laid, tail-fault}
 use Rattle.ie_walk.proofs.Running.{run-more, run-none, run-short}
 use Rattle.ie_walk.proofs.Dividing.{follows-size, front-is-ie, wholes, run-divides, only}
@@ -81,10 +81,42 @@ walk-divides R m end =
       ends = ap (λ (r : Run). r .fault) same;
     }
 
+-- the totals add up to all IEs, and to all their octets
+counts-ies : (t : Totals) (fs : List Found) → ies-of (counts t fs) ≡ ies-of t + length fs
+counts-ies t [] = omega arith
+counts-ies t (f ∷ fs) = omega (arith, counts-ies (count t f) fs, one-ie (f .kind))
+  where
+    one-ie : (k : Kind) → ies-of (count-by k (length (f .part .whole)) t) ≡ ies-of t + 1
+    one-ie (known p) = omega arith
+    one-ie skippable = omega arith
+    one-ie demanding = omega arith
+
+laid-ies : (R : Reading) (p : ℕ) (ies : List (List ℕ)) → Every (IsIe R) ies → length (laid R p ies) ≡ length ies
+laid-ies R p [] each = refl
+laid-ies R p ([] ∷ ies) each = absurd (each .0)
+laid-ies R p ((o ∷ v) ∷ ies) each = omega (arith, laid-ies R (p + length (o ∷ v)) ies (each .1))
+
+laid-octets : (R : Reading) (p : ℕ) (t : Totals) (ies : List (List ℕ)) → Every (IsIe R) ies → octets-of (counts t (laid R p ies)) ≡ octets-of t + length (end-to-end ies)
+laid-octets R p t [] each = omega arith
+laid-octets R p t ([] ∷ ies) each = absurd (each .0)
+laid-octets R p t ((o ∷ v) ∷ ies) each =
+    omega (arith, laid-octets R (p + length (o ∷ v)) (count t (token-at R p o v)) ies (each .1), octets (kind R o), length-append (o ∷ v) (end-to-end ies))
+  where
+    octets : (k : Kind) → octets-of (count-by k (length (o ∷ v)) t) ≡ octets-of t + length (o ∷ v)
+    octets (known p) = omega arith
+    octets skippable = omega arith
+    octets demanding = omega arith
+
 pub counted-divides : (R : Reading) (m : List ℕ) (end : ℕ) (d : Division) → counted-in d ≡ counted no-totals (walked R m end) → Divided R m end d
 counted-divides R m end d e =
+    let D = walk-divides R m end in
+    let each = D .only .divides .each in
+    let totals : d .totals ≡ counts no-totals (walked R m end .tokens) = ap (λ (x : Totals × Option Refusal). x .0) e in
+    let laid-out : d .totals ≡ counts no-totals (laid R end (D .ies)) = totals ∙ ap (counts no-totals) (D .found) in
     record {
       tokens = walked R m end .tokens;
-      division = subst (IsDivision R m end (walked R m end .tokens)) (sym (ap (λ (x : Totals × Option Refusal). x .1) e)) (walk-divides R m end);
-      totals = ap (λ (x : Totals × Option Refusal). x .0) e;
+      division = record { ies = D .ies; tail = D .tail; only = D .only; found = D .found; ends = ap (λ (x : Totals × Option Refusal). x .1) e ∙ D .ends };
+      totals = totals;
+      all-ies = omega (arith, ap ies-of laid-out, counts-ies no-totals (laid R end (D .ies)), laid-ies R end (D .ies) each);
+      all-octets = omega (arith, ap octets-of laid-out, laid-octets R end no-totals (D .ies) each);
     }

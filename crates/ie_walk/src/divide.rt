@@ -8,9 +8,13 @@ ghost use Rattle.ie_walk.specs.Reading.{reading};
 ghost use Rattle.ie_walk.specs.Walks.{Found, found-in};
 ghost use Rattle.ie_walk.specs.Runs.{left, walked};
 ghost use Rattle.ie_walk.specs.Totals.{one-more, count, Within, no-totals, counted, counted-in, divided, Divided};
+use crate::faults::IeFault;
+use crate::faults::IeFaultDebug;
+use crate::faults::IeFaultPartialEq;
 use crate::faults::MessageFault;
-use crate::faults::MessageFaultDebug;
-use crate::faults::MessageFaultPartialEq;
+use crate::faults::Placed;
+use crate::faults::PlacedDebug;
+use crate::faults::PlacedPartialEq;
 use crate::ie::Ie;
 use crate::ie::Token;
 use crate::skip::SkipRule;
@@ -34,7 +38,7 @@ pub struct Totals {
 #[derive(Clone, Copy, PartialEq, Eq, Debug)]
 pub struct Division {
     pub totals: Totals,
-    pub unfinished: Option<MessageFault>,
+    pub unfinished: Option<Placed<IeFault>>,
 }
 
 impl Count {
@@ -97,12 +101,13 @@ fn count_rest<C: Catalogue, S: SkipRule>(mut walk: Walk<'_, '_, '_, C, S>) -> Di
                     unfinished: None,
                 };
             }
-            Err(fault) => {
+            Err(MessageFault::Truncated(fault)) => {
                 return Division {
                     totals,
                     unfinished: Some(fault),
                 };
             }
+            Err(_) => unreachable(),
         }
     }
 }
