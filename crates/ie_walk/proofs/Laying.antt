@@ -120,3 +120,9 @@ counted-divides R m end d e =
       all-ies = omega (arith, ap ies-of laid-out, counts-ies no-totals (laid R end (D .ies)), laid-ies R end (D .ies) each);
       all-octets = omega (arith, ap octets-of laid-out, laid-octets R end no-totals (D .ies) each);
     }
+
+-- the tokens of the walk are those of any division
+pub walked-laid : (R : Reading) (m : List ℕ) (end : ℕ) (tokens : List Found) (fault : Option Refusal) (D : IsDivision R m end tokens fault) → walked R m end .tokens ≡ laid R end (D .ies)
+walked-laid R m end tokens fault D =
+    let W = walk-divides R m end in
+    W .found ∙ ap (laid R end) (D .only .only (W .ies) (W .tail) (W .only .divides) .0)

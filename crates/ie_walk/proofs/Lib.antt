@@ -3,3 +3,4 @@ pub mod Stepping
 pub mod Running
 pub mod Dividing
 pub mod Laying
+pub mod Starting

@@ -1,0 +1,31 @@
+// Octets as text, for the programs.
+ghost use mathlib.Core.Path.{_≡_};
+ghost use Prim.Native.Nat.{_<_};
+ghost use Rattle.std.specs.declared.option.Option.the-variants.{Some};
+ghost use Rattle.ie_text.specs.Hex.{hex-digit, hex-octet};
+use std::fmt;
+
+#[derive(Clone, Copy)]
+pub struct HexOctet(pub u8);
+
+pub impl fmt::Display for HexOctet as HexOctetDisplay {
+    ghost shown = { λ x. Some (hex-octet (x .0)) };
+
+    fn fmt<W: fmt::Write>(&self, f: &mut fmt::Formatter<W>) -> fmt::Result {
+        let high = hex_char(self.0 / 16);
+        let low = hex_char(self.0 % 16);
+        write!(f, "{high}{low}")
+    }
+}
+
+// The upper-case hexadecimal digit.
+fn hex_char(d: u8) -> char
+    requires { ⌜ d < 16 ⌝ }
+    ensures { λ r. ⌜ r ≡ hex-digit d ⌝ }
+{
+    if d < 10 {
+        (b'0' + d) as char
+    } else {
+        (b'A' + (d - 10)) as char
+    }
+}
