@@ -9,9 +9,9 @@ use Rattle.std.specs.declared.option.Option.{Option}
 use Rattle.std.specs.declared.option.Option.the-variants.{Some, None}
 use Rattle.ie_catalogue.specs.declared.row.EntryRow.{EntryRow}
 use Rattle.ie_catalogue.specs.declared.row.Direction.{Direction}
-use Rattle.ie_catalogue.specs.declared.row.Direction.the-variants as direction
-use Rattle.ie_catalogue.specs.declared.views.Link.{Link}
-use Rattle.ie_catalogue.specs.declared.views.Link.the-variants as link
+use Rattle.ie_catalogue.specs.declared.row.Direction.the-variants as way
+use Rattle.ie_catalogue.specs.declared.direction.Link.{Link}
+use Rattle.ie_catalogue.specs.declared.direction.Link.the-variants as link
 use Rattle.ie_catalogue.specs.declared.entry.Entry.{Entry}
 use Rattle.ie_catalogue.specs.Entries.{absent}
 
@@ -23,12 +23,12 @@ abbrev pub later : ℕ → Entry → Bool
 later release e = later-row release (e .row)
 
 abbrev pub against : Link → Direction → Bool
-against link.Up direction.Up = false
-against link.Up direction.Down = true
-against link.Up direction.Both = false
-against link.Down direction.Up = true
-against link.Down direction.Down = false
-against link.Down direction.Both = false
+against link.Up way.Up = false
+against link.Up way.Down = true
+against link.Up way.Both = false
+against link.Down way.Up = true
+against link.Down way.Down = false
+against link.Down way.Both = false
 
 abbrev pub across-row : Link → Option EntryRow → Bool
 across-row l None = false

@@ -2,9 +2,10 @@
 mod bounds;
 pub mod catalogue;
 pub mod checked;
+pub mod direction;
 pub mod entry;
 pub mod lent;
 pub mod refusal;
+pub mod release;
 pub mod row;
 pub mod search;
-pub mod views;

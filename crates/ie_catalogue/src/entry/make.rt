@@ -3,6 +3,7 @@ ghost use mathlib.Core.Path.{_≡_};
 ghost use Rattle.ie_catalogue.specs.Entries.{making, meant, absent, covers};
 ghost use Rattle.ie_catalogue.specs.Refusals.{answered, entry-refusal};
 ghost use Rattle.ie_catalogue.specs.Spans.{span};
+ghost use Rattle.ie_catalogue.specs.Views.{unless-hidden};
 use crate::bounds::row_fits;
 use crate::entry::Entry;
 use crate::refusal::EntryRefusal;
@@ -25,6 +26,13 @@ impl Entry {
         ensures { λ r. ⌜ r ≡ absent ⌝ }
     {
         Entry { row: None }
+    }
+
+    // The absent entry where a view hides this one.
+    pub(crate) fn hidden_if(self, hide: bool) -> Entry
+        ensures { λ r. ⌜ r ≡ unless-hidden hide self ⌝ }
+    {
+        if hide { Entry::absent() } else { self }
     }
 
     // What a lent row means: an ill-formed one means the absent entry.
