@@ -9,3 +9,6 @@ pub mod refusal;
 pub mod release;
 pub mod row;
 pub mod search;
+
+#[cfg(test)]
+mod tests;

@@ -9,3 +9,6 @@ pub mod ie;
 pub mod plain;
 pub mod skip;
 pub mod walk;
+
+#[cfg(test)]
+mod tests;

@@ -123,3 +123,29 @@ pub fn listing(heap: Global, message: &[u8]) -> Result<String, AllocError>
     push_message(&mut out, &catalogue(), &rule, message, end)?;
     Ok(out)
 }
+
+#[cfg(test)]
+mod tests {
+    use super::listing;
+    use std::test::*;
+
+    #[test]
+    fn three_kinds_and_a_cut_tail(rt: LibcRuntime) -> Result<(), Fail> {
+        let message = [
+            0x7e, 0x00, 0x67, 0x02, 0x00, 0x01, 0xaa, 0x59, 0x07, 0x0f, 0x00, 0x7d, 0x00, 0x01,
+            0xff, 0x25, 0x02, 0x61,
+        ];
+        check_eq(
+            listing(rt.alloc(), &message)?.as_str(),
+            "known entry=1 iei=59 at=7 size=2\ndemanding iei=0F at=9 size=2\nskippable iei=7D at=11 size=4\ntruncated iei=25 at=15 needed=4 at_hand=3\n",
+        )
+    }
+
+    #[test]
+    fn refused(rt: LibcRuntime) -> Result<(), Fail> {
+        let long = [0x80; 4097];
+        check_eq(listing(rt.alloc(), &long)?.as_str(), "refused 1\n")?;
+        let short = [0x7e, 0x00, 0x67, 0x01, 0x00];
+        check_eq(listing(rt.alloc(), &short)?.as_str(), "refused 2\n")
+    }
+}
