@@ -1,7 +1,5 @@
 -- Two entries with one row are one entry, and what row a meant entry has.
-use mathlib.Core.Path.{_≡_, refl, sym, _∙_, ap, subst}
-use Rattle.std.proofs.shelf.Tests.{cond-true}
-use Rattle.std.specs.declared.result.Result.the-variants.{Ok, Err}
+use mathlib.Core.Path.{_≡_, refl, sym, _∙_}
 use mathlib.Core.Bool.{Bool, true, false, cond, Bool-set}
 use mathlib.Core.HLevel.{isProp→PathP}
 use Rattle.std.specs.declared.option.Option.{Option}
@@ -9,8 +7,7 @@ use Rattle.std.specs.declared.option.Option.the-variants.{Some, None}
 use Rattle.ie_catalogue.specs.declared.row.EntryRow.{EntryRow}
 use Rattle.ie_catalogue.specs.declared.entry.Entry.{Entry}
 use Rattle.ie_catalogue.specs.Bounds.{well-formed, keeps}
-use Rattle.ie_catalogue.specs.Entries.{meant, meant-at, absent, making}
-use Rattle.ie_catalogue.specs.Refusals.{refused}
+use Rattle.ie_catalogue.specs.Entries.{meant, meant-at, absent}
 
 pub entry-same : (a b : Entry) → a .row ≡ b .row → a ≡ b
 entry-same a b p =
@@ -25,8 +22,3 @@ meant-row r = meant-at-row r (well-formed r) refl
 
 pub same-meant : (e : Entry) (r : EntryRow) → e .row ≡ cond (well-formed r) (Some r) None → e ≡ meant r
 same-meant e r p = entry-same e (meant r) (p ∙ sym (meant-row r))
-
-pub making-ok : (e : Entry) (r : EntryRow) → e .row ≡ Some r → Ok e ≡ making r
-making-ok e r p =
-    let w : well-formed r ≡ true = subst (λ o. keeps o ≡ true) p (e .ok) in
-    ap Ok (same-meant e r (p ∙ sym (cond-true (well-formed r) (Some r) None w))) ∙ sym (cond-true (well-formed r) (Ok (meant r)) (Err (refused 7)) w)

@@ -1,8 +1,9 @@
 // A catalogue that holds its entries, in which no octet is covered by two.
 ghost use mathlib.Core.Path.{_≡_};
 ghost use mathlib.Core.Bool.{false};
-ghost use mathlib.Core.List.{[]};
+ghost use mathlib.Core.List.{[], _∷_, _++_};
 ghost use Prim.Native.Nat.{_≤_};
+ghost use Rattle.std.specs.Finite.{nth};
 ghost use Rattle.std.specs.Of.Vec.{vec-len, vec-items, vec-cap};
 ghost use Rattle.std.specs.Results.{isOk};
 ghost use Rattle.std.specs.Vec.{made};
@@ -34,7 +35,8 @@ fn overlap(a: &Entry, b: &Entry) -> bool
 }
 
 fn clash(held: &[Entry], added: &Entry) -> bool
-    ensures { λ r. ⌜ r ≡ clashes (now (held .entry)) (now (added .entry)) ⌝ }
+    ensures value { λ r. ⌜ r ≡ clashes (now (held .entry)) (now (added .entry)) ⌝ }
+    ensures sole { λ r. ⌜ (r ≡ false → Sole (now (held .entry)) → Sole (now (held .entry) ++ now (added .entry) ∷ [])) ⌝ }
 {
     for one in held {
         if overlap(one, added) {
@@ -42,6 +44,16 @@ fn clash(held: &[Entry], added: &Entry) -> bool
         }
     }
     false
+}
+
+fn entry_in(held: &[Entry], position: usize) -> Option<Entry>
+    ensures { λ r. ⌜ r ≡ nth (now (held .entry)) position ⌝ }
+{
+    if position < held.len() {
+        Some(held[position])
+    } else {
+        None
+    }
 }
 
 impl CheckedCatalogue {
@@ -79,10 +91,6 @@ pub impl Catalogue for CheckedCatalogue as CheckedCatalogueCatalogue {
     }
 
     fn entry(&self, position: usize) -> Option<Entry> {
-        if position < self.entries.len() {
-            Some(self.entries[position])
-        } else {
-            None
-        }
+        entry_in(self.entries.as_slice(), position)
     }
 }

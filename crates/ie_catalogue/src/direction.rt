@@ -5,6 +5,8 @@ ghost use Rattle.ie_catalogue.specs.Few.{few-mapped};
 ghost use Rattle.ie_catalogue.specs.Views.{across, hiding};
 use crate::catalogue::Catalogue;
 use crate::entry::Entry;
+use crate::layer::count_below;
+use crate::layer::entry_below;
 use crate::row::Direction;
 
 // The direction that a view is for.
@@ -39,11 +41,13 @@ pub impl<C: Catalogue> Catalogue for DirectionView<C> as DirectionViewCatalogue 
     ghost few = { λ v. few-mapped _ _ (C·Catalogue .few (v .below)) };
 
     fn count(&self) -> usize {
-        self.below.count()
+        count_below(&self.below)
     }
 
     fn entry(&self, position: usize) -> Option<Entry> {
-        let entry = self.below.entry(position)?;
-        Some(entry.hidden_if(is_across(&entry, self.link)))
+        match entry_below(&self.below, position) {
+            Some(entry) => Some(entry.hidden_if(is_across(&entry, self.link))),
+            None => None,
+        }
     }
 }

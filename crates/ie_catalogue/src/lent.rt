@@ -1,7 +1,10 @@
 // A catalogue over lent rows, of which one that is ill-formed means the absent entry.
 ghost use mathlib.Core.Path.{_≡_};
-ghost use lib.ListN.{length};
+ghost use mathlib.Core.List.{map};
+ghost use lib.ListN.{length, take};
 ghost use denote.Ref.{now};
+ghost use Rattle.std.specs.Finite.{nth};
+ghost use Rattle.std.specs.Options.{mapped};
 ghost use Rattle.ie_catalogue.specs.Entries.{meant};
 ghost use Rattle.ie_catalogue.specs.Few.{few-mapped, few-taken};
 ghost use Rattle.ie_catalogue.specs.Lending.{lending, lent-entries};
@@ -30,20 +33,37 @@ impl<'a> LentRows<'a> {
     }
 }
 
+// How many rows are in use.
+fn rows_used(rows: &[EntryRow]) -> usize
+    ensures { λ r. ⌜ r ≡ length (map meant (take 64 (now (rows .entry)))) ⌝ }
+{
+    rows.len().min(64)
+}
+
+// The row at a position, or none from the count on.
+fn row_at(rows: &[EntryRow], position: usize) -> Option<EntryRow>
+    ensures { λ r. ⌜ mapped meant r ≡ nth (map meant (take 64 (now (rows .entry)))) position ⌝ }
+{
+    if position < rows.len().min(64) {
+        Some(rows[position])
+    } else {
+        None
+    }
+}
+
 pub impl Catalogue for LentRows<'_> as LentRowsCatalogue {
     ghost entries = { lent-entries };
 
     ghost few = { λ l. few-mapped meant _ (few-taken (now (l .rows))) };
 
     fn count(&self) -> usize {
-        self.rows.len().min(64)
+        rows_used(self.rows)
     }
 
     fn entry(&self, position: usize) -> Option<Entry> {
-        if position < self.rows.len().min(64) {
-            Some(Entry::meant(&self.rows[position]))
-        } else {
-            None
+        match row_at(self.rows, position) {
+            Some(row) => Some(Entry::meant(&row)),
+            None => None,
         }
     }
 }

@@ -4,6 +4,7 @@ pub mod catalogue;
 pub mod checked;
 pub mod direction;
 pub mod entry;
+mod layer;
 pub mod lent;
 pub mod refusal;
 pub mod release;

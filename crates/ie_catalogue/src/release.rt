@@ -5,6 +5,8 @@ ghost use Rattle.ie_catalogue.specs.Few.{few-mapped};
 ghost use Rattle.ie_catalogue.specs.Views.{later, hiding};
 use crate::catalogue::Catalogue;
 use crate::entry::Entry;
+use crate::layer::count_below;
+use crate::layer::entry_below;
 
 #[derive(Drop)]
 pub struct ReleaseView<C> {
@@ -27,11 +29,13 @@ pub impl<C: Catalogue> Catalogue for ReleaseView<C> as ReleaseViewCatalogue {
     ghost few = { λ v. few-mapped _ _ (C·Catalogue .few (v .below)) };
 
     fn count(&self) -> usize {
-        self.below.count()
+        count_below(&self.below)
     }
 
     fn entry(&self, position: usize) -> Option<Entry> {
-        let entry = self.below.entry(position)?;
-        Some(entry.hidden_if(is_later(&entry, self.release)))
+        match entry_below(&self.below, position) {
+            Some(entry) => Some(entry.hidden_if(is_later(&entry, self.release))),
+            None => None,
+        }
     }
 }

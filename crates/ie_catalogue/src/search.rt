@@ -1,6 +1,8 @@
 // The search for the first entry that covers an octet.
 ghost use mathlib.Core.Path.{_≡_};
-ghost use Rattle.ie_catalogue.specs.Search.{searched, designates};
+ghost use Prim.Native.Nat.{_<_};
+ghost use Rattle.std.specs.Slices.{found};
+ghost use Rattle.ie_catalogue.specs.Search.{finds, searched, designates};
 use crate::catalogue::Catalogue;
 use crate::entry::Entry;
 
@@ -18,24 +20,34 @@ pub struct Search {
     pub asked: usize,
 }
 
-// Goes on past hidden entries, which cover nothing.
-pub fn find<C: Catalogue>(catalogue: &C, octet: u8) -> Search
-    ensures { λ r. ⌜ r ≡ searched (C·Catalogue .entries (now (catalogue .entry))) octet ⌝ }
+// The first entry that covers the octet; the search goes on past hidden entries, which cover nothing.
+fn first_covering<C: Catalogue>(catalogue: &C, octet: u8) -> Option<Designated>
+    ensures value { λ r. ⌜ r ≡ finds (C·Catalogue .entries (now (catalogue .entry))) octet ⌝ }
+    ensures within { λ r. ⌜ found r (λ d. d .position < 64) ⌝ }
 {
-    let count = catalogue.count();
-    for position in 0..count {
+    for position in 0..catalogue.count() {
         if let Some(entry) = catalogue.entry(position) {
             if entry.covers(octet) {
-                return Search {
-                    found: Some(Designated { position, entry }),
-                    asked: position + 1,
-                };
+                return Some(Designated { position, entry });
             }
         }
     }
-    Search {
-        found: None,
-        asked: count,
+    None
+}
+
+// It asks each entry up to the one designated, or all of them where the octet is unknown.
+pub fn find<C: Catalogue>(catalogue: &C, octet: u8) -> Search
+    ensures { λ r. ⌜ r ≡ searched (C·Catalogue .entries (now (catalogue .entry))) octet ⌝ }
+{
+    match first_covering(catalogue, octet) {
+        Some(designated) => Search {
+            found: Some(designated),
+            asked: designated.position + 1,
+        },
+        None => Search {
+            found: None,
+            asked: catalogue.count(),
+        },
     }
 }
 
@@ -43,7 +55,7 @@ pub fn find<C: Catalogue>(catalogue: &C, octet: u8) -> Search
 pub fn designate<C: Catalogue>(catalogue: &C, octet: u8) -> Option<usize>
     ensures { λ r. ⌜ r ≡ designates (C·Catalogue .entries (now (catalogue .entry))) octet ⌝ }
 {
-    match find(catalogue, octet).found {
+    match first_covering(catalogue, octet) {
         Some(designated) => Some(designated.position),
         None => None,
     }

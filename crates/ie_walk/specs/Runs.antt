@@ -3,6 +3,7 @@
 --   walked    the walk over a message whose imperative part ends at `end`
 --   left      what is ahead of a walk
 --   resumed   a step's outcome, before what is ahead after it
+--   moved-to  the walk at another place, and else the same
 --   Onward    a token moves the place on, and not past the end
 use mathlib.Core.Bool.{Bool}
 use mathlib.Core.List.{List, [], _∷_}
@@ -55,6 +56,9 @@ abbrev pub resumed : Result (Option Found) Refusal → Run → Run
 resumed (Ok (Some f)) r = after-token f r
 resumed (Ok None) r = at-end
 resumed (Err e) r = ended-by e
+
+abbrev pub moved-to : {C S : Type 0} → Walk C S → ℕ → Walk C S
+moved-to w p = record { message = w .message; place = p; catalogue = w .catalogue; rule = w .rule }
 
 abbrev pub Onward : {C S : Type 0} → Result (Option Found) Refusal → Walk C S → Walk C S → Type 0
 Onward (Ok (Some f)) w w′ = (f .part .place ≡ w .place) × (w .place < w′ .place) × (w′ .place ≡ w .place + length (f .part .whole)) × (w′ .place ≤ length (w .message .now))

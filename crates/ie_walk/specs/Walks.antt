@@ -57,6 +57,11 @@ moved place (Ok (Some f)) = place + length (f .part .whole)
 moved place (Ok None) = place
 moved place (Err e) = place
 
+abbrev pub ie-in : Token → Ie
+ie-in (token.Known p i) = i
+ie-in (token.Skippable i) = i
+ie-in (token.Demanding i) = i
+
 abbrev pub part-in : Ie → Part
 part-in i = record { iei = i .iei; place = i .place; whole = i .whole .now; value = i .value .now }
 

@@ -1,4 +1,6 @@
 // An information element as parts of the message that it stands in.
+ghost use mathlib.Core.Path.{_≡_};
+ghost use Rattle.ie_walk.specs.Walks.{ie-in};
 
 // `whole` begins with the IEI octet; `value` is what follows the head, and its end.
 #[derive(Clone, Copy)]
@@ -15,4 +17,16 @@ pub enum Token<'m> {
     Known { position: usize, ie: Ie<'m> },
     Skippable(Ie<'m>),
     Demanding(Ie<'m>),
+}
+
+impl<'m> Token<'m> {
+    pub fn ie(self) -> Ie<'m>
+        ensures { λ r. ⌜ r ≡ ie-in (self .entry) ⌝ }
+    {
+        match self {
+            Token::Known { position: _, ie } => ie,
+            Token::Skippable(ie) => ie,
+            Token::Demanding(ie) => ie,
+        }
+    }
 }

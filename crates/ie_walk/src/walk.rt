@@ -5,7 +5,7 @@ ghost use Rattle.ie_catalogue.specs.Refusals.{answered};
 ghost use Rattle.ie_walk.specs.Faults.{message-refusal, starting};
 ghost use Rattle.ie_walk.specs.Reading.{reading, shaped, sorted};
 ghost use Rattle.ie_walk.specs.Walks.{ie-of, part-in-result, outcome, stepped, moved, found, found-in, part-in};
-ghost use Rattle.ie_walk.specs.Runs.{left, resumed, Onward};
+ghost use Rattle.ie_walk.specs.Runs.{left, resumed, moved-to, Onward};
 use crate::cut::Shape;
 use crate::cut::first_ie;
 use crate::cut::shape_of_entry;
@@ -104,12 +104,11 @@ impl<'m, 'c, 'r, C: Catalogue, S: SkipRule> Walk<'m, 'c, 'r, C, S> {
         })
     }
 
-    // The next token, none at the end, or refusal 3, which the same step then repeats.
-    pub fn step(&mut self) -> Result<Option<Token<'m>>, MessageFault>
+    // What stands at the walk's place, which it keeps.
+    fn ahead(&self) -> Result<Option<Token<'m>>, MessageFault>
         ensures value { λ r. ⌜ outcome r ≡ stepped (reading (C·Catalogue .entries (now (now (self .entry) .catalogue))) (S·SkipRule .framed (now (now (self .entry) .rule))) (S·SkipRule .demands (now (now (self .entry) .rule)))) (now (self .entry) .place) (drop (now (self .entry) .place) (now (now (self .entry) .message))) ⌝ }
-        ensures after { λ r. ⌜ now (self .exit) ≡ record { message = now (self .entry) .message; place = moved (now (self .entry) .place) (outcome r); catalogue = now (self .entry) .catalogue; rule = now (self .entry) .rule } ⌝ }
-        ensures rest { λ r. ⌜ left (C·Catalogue .entries) (S·SkipRule .framed) (S·SkipRule .demands) (now (self .entry)) ≡ resumed (outcome r) (left (C·Catalogue .entries) (S·SkipRule .framed) (S·SkipRule .demands) (now (self .exit))) ⌝ }
-        ensures onward { λ r. ⌜ Onward (outcome r) (now (self .entry)) (now (self .exit)) ⌝ }
+        ensures rest { λ r. ⌜ left (C·Catalogue .entries) (S·SkipRule .framed) (S·SkipRule .demands) (now (self .entry)) ≡ resumed (outcome r) (left (C·Catalogue .entries) (S·SkipRule .framed) (S·SkipRule .demands) (moved-to (now (self .entry)) (moved (now (self .entry) .place) (outcome r)))) ⌝ }
+        ensures onward { λ r. ⌜ Onward (outcome r) (now (self .entry)) (moved-to (now (self .entry)) (moved (now (self .entry) .place) (outcome r))) ⌝ }
     {
         if self.place >= self.message.len() {
             return Ok(None);
@@ -121,7 +120,20 @@ impl<'m, 'c, 'r, C: Catalogue, S: SkipRule> Walk<'m, 'c, 'r, C, S> {
         let designated = find(self.catalogue, *iei).found;
         let shape = shape_of(designated, self.rule, *iei);
         let ie = ie_at(shape, *iei, self.place, octets)?;
-        self.place += ie.whole.len();
         Ok(Some(token_of(designated, self.rule, ie)))
+    }
+
+    // The next token, none at the end, or refusal 3, which the same step then repeats.
+    pub fn step(&mut self) -> Result<Option<Token<'m>>, MessageFault>
+        ensures value { λ r. ⌜ outcome r ≡ stepped (reading (C·Catalogue .entries (now (now (self .entry) .catalogue))) (S·SkipRule .framed (now (now (self .entry) .rule))) (S·SkipRule .demands (now (now (self .entry) .rule)))) (now (self .entry) .place) (drop (now (self .entry) .place) (now (now (self .entry) .message))) ⌝ }
+        ensures after { λ r. ⌜ now (self .exit) ≡ moved-to (now (self .entry)) (moved (now (self .entry) .place) (outcome r)) ⌝ }
+        ensures rest { λ r. ⌜ left (C·Catalogue .entries) (S·SkipRule .framed) (S·SkipRule .demands) (now (self .entry)) ≡ resumed (outcome r) (left (C·Catalogue .entries) (S·SkipRule .framed) (S·SkipRule .demands) (now (self .exit))) ⌝ }
+        ensures onward { λ r. ⌜ Onward (outcome r) (now (self .entry)) (now (self .exit)) ⌝ }
+    {
+        let ahead = self.ahead()?;
+        if let Some(token) = ahead {
+            self.place += token.ie().whole.len();
+        }
+        Ok(ahead)
     }
 }

@@ -16,7 +16,7 @@ impl Entry {
         ensures { λ r. ⌜ answered entry-refusal r ≡ making row ⌝ }
     {
         if row_fits(&row) {
-            Ok(Entry { row: Some(row) })
+            Ok(Entry::meant(&row))
         } else {
             Err(EntryRefusal::OutOfBounds)
         }

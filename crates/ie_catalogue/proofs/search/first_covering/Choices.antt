@@ -1,7 +1,7 @@
 use mathlib.Core.Path.{_≡_}
 use lib.ListN.{drop}
 use Rattle.ie_catalogue.specs.Search.{finds, finds-from}
-use Rattle.ie_catalogue.proofs.search.find.Given as given
+use Rattle.ie_catalogue.proofs.search.first_covering.Given as given
 
 abbrev pub Inv-loop-position : given.InvT-loop-position
 Inv-loop-position g l =
