@@ -15,4 +15,3 @@ few-taken xs = rw length-take (omega arith)
 
 pub few-held : {X Z : Type 0} (v : Vec X Z) → vec-len v ≤ 64 → length (vec-items v) ≤ 64
 few-held v h = omega (arith, v .ok .0)
-

@@ -10,6 +10,5 @@ pub mod refusal;
 pub mod release;
 pub mod row;
 pub mod search;
-
 #[cfg(test)]
 mod tests;

@@ -1,6 +1,8 @@
 // Octets as text, for the programs.
 ghost use mathlib.Core.Path.{_≡_};
+ghost use mathlib.Core.List.{[], _∷_};
 ghost use Prim.Native.Nat.{_<_};
+ghost use lib.Utf8.{encode};
 ghost use Rattle.std.specs.declared.option.Option.the-variants.{Some};
 ghost use Rattle.ie_text.specs.Hex.{hex-digit, hex-octet};
 use std::fmt;
@@ -21,7 +23,8 @@ pub impl fmt::Display for HexOctet as HexOctetDisplay {
 // The upper-case hexadecimal digit.
 fn hex_char(d: u8) -> char
     requires { ⌜ d < 16 ⌝ }
-    ensures { λ r. ⌜ r ≡ hex-digit d ⌝ }
+    ensures value { λ r. ⌜ r ≡ hex-digit d ⌝ }
+    ensures byte { λ r. ⌜ encode r ≡ hex-digit d ∷ [] ⌝ }
 {
     if d < 10 {
         (b'0' + d) as char

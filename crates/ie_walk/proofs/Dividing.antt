@@ -103,6 +103,7 @@ one-more R p o h os next ih = go (ltb (length (o ∷ os)) n) refl
   where
     n : ℕ
     n = needed (shape R o) (o ∷ os)
+
     go : (b : Bool) → ltb (length (o ∷ os)) n ≡ b → Cut-up R (o ∷ os) (onward (found-as (kind R o) (part-of o p (cond b (Err (record { needed = n; «at_hand» = length (o ∷ os) })) (Ok (take n (o ∷ os), drop h (take n (o ∷ os))))))) next)
     go true t = (o ∷ os, record { covers = refl; each = tt; stops = front-unfinished R o os (ltb-true _ _ t) })
     go false t =
@@ -112,8 +113,7 @@ one-more R p o h os next ih = go (ltb (length (o ∷ os)) n) refl
         let some : 0 < length a = omega (arith, head-some (shape R o), needed-some (shape R o) (o ∷ os)) in
         let rest = ih (length a - 1) in
         let D = rest .1 in
-        let js = end-to-end (wholes (next (length a - 1))) in
-        (
+        let js = end-to-end (wholes (next (length a - 1))) in (
           rest .0,
           record {
             covers = append-assoc a js (rest .0) ∙ ap (λ l. a ++ l) (D .covers ∙ drop-tail (length a) o os some ∙ ap (λ k. drop k (o ∷ os)) long) ∙ take-append-drop n (o ∷ os);
@@ -137,4 +137,3 @@ only R os ies tail D = record {
   divides = D;
   only = λ ies′ tail′ D′. one-division R ies′ ies tail′ tail (D′ .each) (D .each) (D′ .stops) (D .stops) (D′ .covers ∙ sym (D .covers));
 }
-

@@ -8,7 +8,6 @@ pub mod five_gs;
 pub mod ie;
 pub mod plain;
 pub mod skip;
-pub mod walk;
-
 #[cfg(test)]
 mod tests;
+pub mod walk;

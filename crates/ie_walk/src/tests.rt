@@ -91,10 +91,7 @@ fn truncated_again_and_again() -> Result<(), Fail> {
 // 25 is a TLV of release 16, and before that a TV of one octet; 0F is demanding; 72 is a TLV under EPS.
 #[test]
 fn under_a_pile_of_layers() -> Result<(), Fail> {
-    let rows = [
-        row(0x25, Format::Tlv, 2, 16),
-        row(0x25, Format::Tv, 1, 15),
-    ];
+    let rows = [row(0x25, Format::Tlv, 2, 16), row(0x25, Format::Tv, 1, 15)];
     let view = DirectionView {
         below: ReleaseView {
             below: LentRows::lend(&rows)?,

@@ -94,7 +94,7 @@ pub listing-from : (es : List Entry) (m : List ℕ) (end : ℕ) (before after : 
     → Appends (reading es (shipped .framed) (shipped .demands)) m end before after → Listing m after
 listing-from es m end before after p q z short A =
     let B : Appends (reading (map meant table) (shipped .framed) (shipped .demands)) m end before after =
-        subst (λ x. Appends (reading x (shipped .framed) (shipped .demands)) m end before after) p A in
+    subst (λ x. Appends (reading x (shipped .framed) (shipped .demands)) m end before after) p A in
     let C : Appends shipped m (imperative-end m) before after = subst (λ x. Appends shipped m x before after) q B in
     let D : Appends shipped m (imperative-end m) [] after = subst (λ x. Appends shipped m (imperative-end m) x after) z C in
     record {

@@ -11,7 +11,8 @@ pub returns-then-overlap : need.returns-then-overlap
 returns-then-overlap c =
     record {
       value = clash-at (c .args .held .now) (c .loop-one .one-index) (c .one-item .result) (c .args .added .now) (c .loop-one-test .taken) (c .one-item .is) (c .if-overlap .ensures tt);
-      sole = λ e _. absurd (false≢true (sym e)) }
+      sole = λ e _. absurd (false≢true (sym e));
+    }
 
 pub loop-one-again : need.loop-one-again
 loop-one-again c =

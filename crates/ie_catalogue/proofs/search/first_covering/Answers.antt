@@ -9,13 +9,15 @@ returns-then-covers g c =
     let few = g .C·Catalogue .few (c .args .catalogue .now) in
     record {
       value = finds-here _ (c .loop-position .position) (c .args .octet) (c .in-Some .entry) (c .in-Some .ensures tt) (c .if-covers .ensures tt) ∙ c .loop-position .inv;
-      within = omega arith }
+      within = omega arith;
+    }
 
 pub loop-position-again : need.loop-position-again
 loop-position-again g c =
     elim (c .match-entry .came) [
-      in-Some·else-covers w ↦ finds-more _ (c .loop-position .position) (c .args .octet) (w .in-Some .entry) (w .in-Some .ensures tt) (w .if-covers .ensures tt) ∙ c .loop-position .inv |
-      in-rest w ↦ finds-past _ (c .loop-position .position) (c .args .octet) (w .in-rest .ensures tt) ∙ c .loop-position .inv ]
+      | in-Some·else-covers w ↦ finds-more _ (c .loop-position .position) (c .args .octet) (w .in-Some .entry) (w .in-Some .ensures tt) (w .if-covers .ensures tt) ∙ c .loop-position .inv
+      | in-rest w ↦ finds-past _ (c .loop-position .position) (c .args .octet) (w .in-rest .ensures tt) ∙ c .loop-position .inv
+    ]
 
 pub returns : need.returns
 returns g c = record { value = finds-end _ (c .loop-position .position) (c .args .octet) (omega arith) ∙ c .loop-position .inv; within = tt }
