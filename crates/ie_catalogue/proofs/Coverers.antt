@@ -1,8 +1,8 @@
 -- How many entries cover an octet, as a list is gone through and grows.
 use mathlib.Core.Path.{_≡_, refl, sym, _∙_, ap, subst}
-use mathlib.Core.Bool.{Bool, true, false}
+use mathlib.Core.Bool.{true, false}
 use mathlib.Core.List.{List, [], _∷_, _++_}
-use mathlib.Core.Logic.{inl, inr, ⊎-elim}
+use mathlib.Core.Logic.{⊎-elim}
 use Prim.Native.Nat.{ℕ, _+_, _<_, _≤_, zero, suc}
 use native.Mathlib.Omega.{arith}
 use lib.ListN.{length, drop, getD}
@@ -11,7 +11,7 @@ use Rattle.std.proofs.shelf.Lists.{drop-more, at-drop-all}
 use Rattle.ie_catalogue.specs.declared.entry.Entry.{Entry}
 use Rattle.ie_catalogue.specs.Entries.{covers, known, coverers, one-if, Sole}
 use Rattle.ie_catalogue.specs.Adding.{shares, clashes}
-use Rattle.ie_catalogue.proofs.Shared.{Shared, Clash, shares-decides, clashes-decides}
+use Rattle.ie_catalogue.proofs.Shared.{Clash, shares-decides, clashes-decides}
 use Rattle.ie_catalogue.proofs.Overlap.{covered-below}
 
 pub coverers-push : (es : List Entry) (e : Entry) (o : ℕ) → coverers (es ++ e ∷ []) o ≡ coverers es o + one-if (covers e o)

@@ -1,7 +1,7 @@
 -- The octets of an entry are a span, and two entries share an octet where their spans meet.
-use mathlib.Core.Path.{_≡_, refl, sym, _∙_, ap, subst}
-use mathlib.Core.Bool.{Bool, true, false, cond, _&&_}
-use Prim.Native.Nat.{ℕ, _+_, _*_, _/_, _<_, _≤_, max}
+use mathlib.Core.Path.{_≡_}
+use mathlib.Core.Bool.{true, _&&_}
+use Prim.Native.Nat.{ℕ, _+_, _/_, _<_, _≤_, max}
 use native.Mathlib.Omega.{arith}
 use lib.Dec.{leb, ltb, eqb}
 use Rattle.std.specs.Orderings.{Decides}
@@ -12,7 +12,7 @@ use Rattle.ie_catalogue.specs.declared.row.EntryRow.{EntryRow}
 use Rattle.ie_catalogue.specs.declared.row.Format.{Format}
 use Rattle.ie_catalogue.specs.declared.row.Format.the-variants.{TvHalf, T, Tv, Tlv, TlvE}
 use Rattle.ie_catalogue.specs.declared.entry.Entry.{Entry}
-use Rattle.ie_catalogue.specs.Bounds.{framed, keeps, well-formed}
+use Rattle.ie_catalogue.specs.Bounds.{framed, keeps}
 use Rattle.ie_catalogue.specs.Entries.{covers, covers-by, covers-row}
 use Rattle.ie_catalogue.specs.Spans.{span, span-by, span-row}
 use Rattle.ie_catalogue.specs.Adding.{shares}

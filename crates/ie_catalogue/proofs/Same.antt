@@ -2,12 +2,11 @@
 use mathlib.Core.Path.{_≡_, refl, sym, _∙_}
 use mathlib.Core.Bool.{Bool, true, false, cond, Bool-set}
 use mathlib.Core.HLevel.{isProp→PathP}
-use Rattle.std.specs.declared.option.Option.{Option}
 use Rattle.std.specs.declared.option.Option.the-variants.{Some, None}
 use Rattle.ie_catalogue.specs.declared.row.EntryRow.{EntryRow}
 use Rattle.ie_catalogue.specs.declared.entry.Entry.{Entry}
 use Rattle.ie_catalogue.specs.Bounds.{well-formed, keeps}
-use Rattle.ie_catalogue.specs.Entries.{meant, meant-at, absent}
+use Rattle.ie_catalogue.specs.Entries.{meant, meant-at}
 
 pub entry-same : (a b : Entry) → a .row ≡ b .row → a ≡ b
 entry-same a b p =

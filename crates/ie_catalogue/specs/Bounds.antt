@@ -3,7 +3,7 @@
 --   tested        the numbers in a test
 --   well-formed   a row within all bounds
 --   keeps         what every entry keeps
-use mathlib.Core.Bool.{Bool, true, false, _&&_}
+use mathlib.Core.Bool.{Bool, true, _&&_}
 use Prim.Native.Nat.{ℕ}
 use lib.Dec.{leb, eqb}
 use Rattle.std.specs.declared.option.Option.{Option}

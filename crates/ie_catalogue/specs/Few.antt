@@ -1,6 +1,6 @@
 -- Lists of at most 64: what makes the meaning of each catalogue one.
 use mathlib.Core.List.{List, map}
-use Prim.Native.Nat.{ℕ, _≤_}
+use Prim.Native.Nat.{_≤_}
 use native.Mathlib.Omega.{arith}
 use lib.ListN.{length, take, length-take}
 use Rattle.std.specs.Of.Vec.{vec-len, vec-items}

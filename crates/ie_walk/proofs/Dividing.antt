@@ -1,24 +1,19 @@
 -- A part of a message divides into IEs in one way, and the walk finds it.
 use mathlib.Core.Path.{_≡_, refl, sym, ap, _∙_, subst}
 use mathlib.Core.Bool.{Bool, true, false, cond}
-use mathlib.Core.List.{List, [], _∷_, _++_, map, append-assoc, append-nil}
+use mathlib.Core.List.{List, [], _∷_, _++_, map, append-assoc}
 use Prim.Native.Nat.{ℕ, zero, suc, _+_, _-_, _*_, _≤_, _<_}
 use native.Mathlib.Omega.{arith}
-use native.Mathlib.Numerals.{add-one, one-add}
 use lib.Dec.{ltb}
-use lib.ListN.{length, take, drop, getD, length-append, take-append-drop}
+use lib.ListN.{length, take, drop, length-append, take-append-drop}
 use lib.Seq.{length-take-le}
 use Rattle.std.specs.Vec.{Every}
-use Rattle.std.proofs.shelf.Tests.{le-ltb, lt-ltb, cond-false, cond-true, ltb-true, ltb-false}
-use Rattle.std.proofs.shelf.Lists.{take-at, drop-at, length-map}
-use Rattle.std.specs.declared.option.Option.{Option}
-use Rattle.std.specs.declared.option.Option.the-variants.{Some, None}
-use Rattle.std.specs.declared.result.Result.{Result}
+use Rattle.std.proofs.shelf.Tests.{le-ltb, cond-false, ltb-true, ltb-false}
+use Rattle.std.proofs.shelf.Lists.{take-at, drop-at}
 use Rattle.std.specs.declared.result.Result.the-variants.{Ok, Err}
 use Rattle.ie_walk.specs.declared.cut.Shape.{Shape}
 use Rattle.ie_walk.specs.declared.cut.Shape.the-variants.{Fixed, Tlv, TlvE}
 use Rattle.ie_walk.specs.Cuts.{head, value-length, needed, cut-of}
-use Rattle.ie_catalogue.specs.Refusals.{Refusal}
 use Rattle.ie_walk.specs.Reading.{Reading, shape, kind}
 use Rattle.ie_walk.specs.Walks.{Found, found-as, part-of}
 use Rattle.ie_walk.specs.Runs.{Run, run, onward}

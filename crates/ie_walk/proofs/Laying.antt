@@ -1,21 +1,18 @@
 -- The walk gives the tokens of the division, and the fault of its tail.
-use mathlib.Core.Path.{_≡_, refl, sym, ap, _∙_, subst}
-use mathlib.Core.Bool.{Bool, true, false, cond}
-use mathlib.Core.List.{List, [], _∷_, _++_, map, append-assoc, append-nil}
-use Prim.Native.Nat.{ℕ, zero, suc, _+_, _-_, _*_, _≤_, _<_}
+use mathlib.Core.Path.{_≡_, refl, sym, ap, _∙_}
+use mathlib.Core.List.{List, [], _∷_, _++_, append-assoc}
+use Prim.Native.Nat.{ℕ, _+_, _-_, _≤_, _<_}
 use native.Mathlib.Nat.{add-zero}
 use native.Mathlib.Omega.{arith}
-use lib.Dec.{ltb}
-use lib.ListN.{length, take, drop, getD, length-append}
+use lib.ListN.{length, take, drop, length-append}
 use Rattle.std.specs.Vec.{Every}
 use Rattle.std.proofs.shelf.Tests.{le-ltb, lt-ltb, cases-lt}
 use Rattle.std.proofs.shelf.Lists.{take-at, drop-at}
 use mathlib.Core.Logic.{⊎-elim}
 use Rattle.std.specs.declared.option.Option.{Option}
-use Rattle.std.specs.declared.option.Option.the-variants.{Some, None}
-use Rattle.std.specs.declared.result.Result.{Result}
+use Rattle.std.specs.declared.option.Option.the-variants.{Some}
 use Rattle.std.specs.declared.result.Result.the-variants.{Ok, Err}
-use Rattle.ie_walk.specs.Cuts.{CutResult, head, needed, cut-of}
+use Rattle.ie_walk.specs.Cuts.{head, needed, cut-of}
 use Rattle.ie_walk.specs.Faults.{truncated}
 use Rattle.ie_walk.specs.Reading.{Reading, Kind, known, skippable, demanding, shape, kind}
 use Rattle.ie_walk.specs.Walks.{Found, stepped, found-as, part-of}
@@ -24,8 +21,8 @@ use Rattle.ie_catalogue.specs.Refusals.{Refusal}
 use Rattle.ie_walk.specs.declared.divide.Totals.{Totals}
 use Rattle.ie_walk.specs.declared.divide.Division.{Division}
 use Rattle.ie_walk.specs.Totals.{count, count-by, counts, no-totals, counted, counted-in, ies-of, octets-of, Divided}
-use Rattle.ie_walk.specs.Grammar.{IsIe, Unfinished, Divides, IsDivision, end-to-end, token-at, laid, tail-fault}
-use Rattle.ie_walk.proofs.Running.{run-more, run-none, run-short}
+use Rattle.ie_walk.specs.Grammar.{IsIe, Unfinished, IsDivision, end-to-end, token-at, laid, tail-fault}
+use Rattle.ie_walk.proofs.Running.{run-more, run-short}
 use Rattle.ie_walk.proofs.Dividing.{follows-size, front-is-ie, wholes, run-divides, only}
 
 -- an IE at the front is what the step finds

@@ -1,5 +1,5 @@
 -- The whole walk, one step at a time.
-use mathlib.Core.Path.{_≡_, refl, sym, ap, _∙_, subst}
+use mathlib.Core.Path.{_≡_, refl, sym, ap, _∙_}
 use mathlib.Core.Bool.{Bool, true, false, cond}
 use mathlib.Core.List.{List, [], _∷_}
 use Prim.Native.Nat.{ℕ, zero, suc, _+_, _-_, _≤_, _<_}
@@ -8,7 +8,7 @@ use native.Mathlib.Omega.{arith}
 use lib.Dec.{ltb}
 use lib.ListN.{length, take, drop, length-drop}
 use lib.Seq.{length-take-le}
-use Rattle.std.proofs.shelf.Tests.{ltb-true, ltb-false}
+use Rattle.std.proofs.shelf.Tests.{ltb-false}
 use Rattle.std.proofs.shelf.Lists.{drop-drop}
 use Rattle.std.specs.declared.option.Option.{Option}
 use Rattle.std.specs.declared.option.Option.the-variants.{Some, None}
@@ -16,14 +16,14 @@ use Rattle.std.specs.declared.result.Result.{Result}
 use Rattle.std.specs.declared.result.Result.the-variants.{Ok, Err}
 use Rattle.ie_walk.specs.declared.cut.Shape.{Shape}
 use Rattle.ie_walk.specs.declared.cut.Shape.the-variants.{Fixed, Tlv, TlvE}
-use Rattle.ie_walk.specs.Cuts.{CutResult, head, value-length, needed, cut-of}
+use Rattle.ie_walk.specs.Cuts.{head, value-length, needed, cut-of}
 use Rattle.ie_walk.specs.declared.skip.Frame.{Frame}
 use Rattle.ie_walk.specs.declared.walk.Walk.{Walk}
 use Rattle.ie_catalogue.specs.Refusals.{Refusal}
 use Rattle.ie_catalogue.specs.declared.entry.Entry.{Entry}
 use Rattle.ie_walk.specs.Reading.{Reading, Kind, reading, shape, kind}
 use Rattle.ie_walk.specs.Walks.{Found, stepped, moved, found-as, part-of}
-use Rattle.ie_walk.specs.Runs.{Run, run, onward, at-end, after-token, ended-by, walked, left, resumed, moved-to, Onward}
+use Rattle.ie_walk.specs.Runs.{run, onward, at-end, after-token, ended-by, walked, left, resumed, moved-to, Onward}
 
 pub head-some : (s : Shape) → 0 < head s
 head-some (Fixed n) = omega arith

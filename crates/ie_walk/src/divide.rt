@@ -5,7 +5,7 @@ ghost use lib.ListN.{length};
 ghost use Rattle.std.specs.Vec.{made};
 ghost use Rattle.ie_walk.specs.Faults.{starting};
 ghost use Rattle.ie_walk.specs.Reading.{reading};
-ghost use Rattle.ie_walk.specs.Walks.{Found, found-in};
+ghost use Rattle.ie_walk.specs.Walks.{found-in};
 ghost use Rattle.ie_walk.specs.Runs.{left, walked};
 ghost use Rattle.ie_walk.specs.Totals.{one-more, count, Within, no-totals, counted, counted-in, divided, Divided};
 use crate::faults::IeFault;

@@ -1,9 +1,9 @@
 -- The last line is that of the division.
 use mathlib.Core.Path.{_≡_, ap, subst, _∙_}
 use mathlib.Core.List.{List, [], _∷_, _++_, map, append-assoc}
-use Prim.Native.Nat.{ℕ, _+_, _≤_, _<_}
+use Prim.Native.Nat.{ℕ, _+_, _≤_}
 use native.Mathlib.Omega.{arith}
-use lib.ListN.{length, drop, length-append, length-drop}
+use lib.ListN.{length, length-append, length-drop}
 use Rattle.std.specs.declared.option.Option.{Option}
 use Rattle.std.specs.declared.option.Option.the-variants.{Some, None}
 use Rattle.ie_walk.specs.declared.divide.Division.{Division}
@@ -26,7 +26,6 @@ use Rattle.ie_walk.specs.Totals.{ies-of, octets-of, tail-refusal, Divided}
 use Rattle.ul_nas_transport.specs.Imperative.{imperative-end}
 use Rattle.ul_nas_transport.specs.Table.{table}
 use Rattle.ie_walk.proofs.Laying.{walked-laid}
-use Rattle.iewalk.specs.declared.line.Line.{Line}
 use Rattle.iewalk.specs.Lines.{text, ie-line, closing-by, closing-line}
 use Rattle.iewalk.specs.Listing.{last-line, Listed, Appends, shipped, Listing}
 use Rattle.iewalk.proofs.Texts.{text-joined}

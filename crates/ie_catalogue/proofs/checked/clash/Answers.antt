@@ -1,4 +1,4 @@
-use mathlib.Core.Path.{_≡_, sym, _∙_}
+use mathlib.Core.Path.{sym}
 use mathlib.Core.Bool.{true, false}
 use Rattle.std.proofs.shelf.Tests.{false≢true}
 use Rattle.ie_catalogue.proofs.Coverers.{clash-at, clash-more, clash-none, sole-push}
