@@ -15,12 +15,6 @@ nth-map f [] i = refl
 nth-map f (x ∷ xs) zero = refl
 nth-map f (x ∷ xs) (suc i) = nth-map f xs i
 
--- the premises are as a call's `ensures` gives them: the answer first
-pub nth-outside : {X : Type 0} (xs : List X) (i : ℕ) → None ≡ nth xs i → length xs ≤ i
-nth-outside [] i p = omega arith
-nth-outside (y ∷ ys) zero p = let z : _≡_ {A = ℕ} 0 1 = cc in absurd (omega arith)
-nth-outside (y ∷ ys) (suc i) p = let h : length ys ≤ i = nth-outside ys i p in omega arith
-
 pub nth-taken : {X Y : Type 0} (f : X → Y) (n : ℕ) (xs : List X) (i : ℕ) (d : X) → i < length xs → i < n → Some (f (getD xs i d)) ≡ nth (map f (take n xs)) i
 nth-taken f n xs i d h k =
     let l : i < length (take n xs) = rw length-take (omega arith) in

@@ -3,6 +3,7 @@
 --   meant           what a lent row means: an ill-formed one means the absent entry
 --   making          the answer to making an entry of a row
 --   covers          format 1 by the upper half octet, the others by equality
+--   presence-of, expect-of, forbid-of   of the row; the absent entry is optional, its tests never hold
 --   known           some entry covers the octet
 --   coverers, Sole  how many entries cover an octet; no octet is covered by two
 use mathlib.Core.Path.{_≡_, refl}
@@ -17,6 +18,10 @@ use Rattle.std.specs.declared.result.Result.the-variants.{Ok, Err}
 use Rattle.ie_catalogue.specs.declared.row.EntryRow.{EntryRow}
 use Rattle.ie_catalogue.specs.declared.row.Format.{Format}
 use Rattle.ie_catalogue.specs.declared.row.Format.the-variants.{TvHalf, T, Tv, Tlv, TlvE}
+use Rattle.ie_catalogue.specs.declared.row.Presence.{Presence}
+use Rattle.ie_catalogue.specs.declared.row.Presence.the-variants.{Optional}
+use Rattle.ie_catalogue.specs.declared.row.Test.{Test}
+use Rattle.ie_catalogue.specs.declared.row.Test.the-variants.{Never}
 use Rattle.ie_catalogue.specs.declared.entry.Entry.{Entry}
 use Rattle.ie_catalogue.specs.Bounds.{well-formed}
 use Rattle.ie_catalogue.specs.Refusals.{Refusal, refused}
@@ -48,6 +53,24 @@ covers-row (Some r) octet = covers-by (r .format) (r .iei) octet
 
 abbrev pub covers : Entry → ℕ → Bool
 covers e octet = covers-row (e .row) octet
+
+-- the absent entry is optional, and never expected or forbidden
+abbrev pub presence-row : Option EntryRow → Presence
+presence-row None = Optional
+presence-row (Some r) = r .presence
+
+abbrev pub presence-of : Entry → Presence
+presence-of e = presence-row (e .row)
+
+abbrev pub test-row : (EntryRow → Test) → Option EntryRow → Test
+test-row test None = Never
+test-row test (Some r) = test r
+
+abbrev pub expect-of : Entry → Test
+expect-of e = test-row (λ (r : EntryRow). r .expect) (e .row)
+
+abbrev pub forbid-of : Entry → Test
+forbid-of e = test-row (λ (r : EntryRow). r .forbid) (e .row)
 
 abbrev pub known : List Entry → ℕ → Bool
 known [] octet = false

@@ -1,4 +1,5 @@
 pub mod Refusals
+pub mod Formats
 pub mod Bounds
 pub mod Entries
 pub mod Search

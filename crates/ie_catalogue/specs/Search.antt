@@ -7,6 +7,7 @@ use mathlib.Core.Bool.{cond}
 use mathlib.Core.List.{List, [], _∷_}
 use Prim.Native.Nat.{ℕ, suc, _+_}
 use lib.ListN.{length}
+use Rattle.std.specs.Finite.{nth}
 use Rattle.std.specs.Options.{mapped}
 use Rattle.std.specs.declared.option.Option.{Option}
 use Rattle.std.specs.declared.option.Option.the-variants.{Some, None}
@@ -17,6 +18,14 @@ use Rattle.ie_catalogue.specs.Entries.{covers}
 
 abbrev pub designated : ℕ → Entry → Designated
 designated i e = record { position = i; entry = e }
+
+-- the entry at position i, if it covers the octet
+abbrev pub covering-by : ℕ → ℕ → Option Entry → Option Designated
+covering-by i octet None = None
+covering-by i octet (Some e) = cond (covers e octet) (Some (designated i e)) None
+
+abbrev pub covering-at : List Entry → ℕ → ℕ → Option Designated
+covering-at es i octet = covering-by i octet (nth es i)
 
 -- where the list's first entry has the position i
 abbrev pub finds-from : ℕ → List Entry → ℕ → Option Designated

@@ -28,7 +28,7 @@ fn test_fits(test: Test) -> bool
     }
 }
 
-pub fn row_fits(row: &EntryRow) -> bool
+pub(crate) fn row_fits(row: &EntryRow) -> bool
     ensures { λ r. ⌜ r ≡ well-formed (now (row .entry)) ⌝ }
 {
     frame_fits(row.format, row.iei, row.least, row.greatest)

@@ -12,8 +12,8 @@ use crate::row::Direction;
 // The direction that a view is for.
 #[derive(Clone, Copy, PartialEq, Eq, Debug)]
 pub enum Link {
-    Up = 1,
-    Down = 2,
+    Up,
+    Down,
 }
 
 #[derive(Drop)]

@@ -1,13 +1,30 @@
 // What a table of information elements says of one of them, not yet checked.
+ghost use mathlib.Core.Path.{_≡_};
+ghost use Rattle.ie_catalogue.specs.Formats.{format-number};
 
-// How the IE is laid out; the numbers are the standard's types.
+// How the IE is laid out.
 #[derive(Clone, Copy, PartialEq, Eq, Debug)]
 pub enum Format {
-    TvHalf = 1,
-    T = 2,
-    Tv = 3,
-    Tlv = 4,
-    TlvE = 6,
+    TvHalf,
+    T,
+    Tv,
+    Tlv,
+    TlvE,
+}
+
+impl Format {
+    // The standard's number for it.
+    pub fn number(self) -> u8
+        ensures { λ r. ⌜ r ≡ format-number self ⌝ }
+    {
+        match self {
+            Format::TvHalf => 1,
+            Format::T => 2,
+            Format::Tv => 3,
+            Format::Tlv => 4,
+            Format::TlvE => 6,
+        }
+    }
 }
 
 #[derive(Clone, Copy, PartialEq, Eq, Debug)]
@@ -19,9 +36,9 @@ pub enum Presence {
 
 #[derive(Clone, Copy, PartialEq, Eq, Debug)]
 pub enum Direction {
-    Up = 1,
-    Down = 2,
-    Both = 3,
+    Up,
+    Down,
+    Both,
 }
 
 // A static condition: on whether an entry was taken, or on an octet of the imperative part.

@@ -1,8 +1,8 @@
 // The search for the first entry that covers an octet.
 ghost use mathlib.Core.Path.{_≡_};
-ghost use Prim.Native.Nat.{_<_};
-ghost use Rattle.std.specs.Slices.{found};
-ghost use Rattle.ie_catalogue.specs.Search.{finds, searched, designates};
+ghost use Prim.Native.Nat.{_+_, _<_};
+ghost use lib.ListN.{length};
+ghost use Rattle.ie_catalogue.specs.Search.{covering-at, finds, asks, searched, designates};
 use crate::catalogue::Catalogue;
 use crate::entry::Entry;
 
@@ -20,34 +20,60 @@ pub struct Search {
     pub asked: usize,
 }
 
-// The first entry that covers the octet; the search goes on past hidden entries, which cover nothing.
-fn first_covering<C: Catalogue>(catalogue: &C, octet: u8) -> Option<Designated>
-    ensures value { λ r. ⌜ r ≡ finds (C·Catalogue .entries (now (catalogue .entry))) octet ⌝ }
-    ensures within { λ r. ⌜ found r (λ d. d .position < 64) ⌝ }
-{
-    for position in 0..catalogue.count() {
-        if let Some(entry) = catalogue.entry(position) {
-            if entry.covers(octet) {
-                return Some(Designated { position, entry });
+// A catalogue with the number of entries asked of it: each question is counted where it is put.
+#[derive(Drop)]
+struct Questions<'c, C> {
+    catalogue: &'c C,
+    asked: usize,
+}
+
+impl<C: Catalogue> Questions<'_, C> {
+    // The entry at the position, if it covers the octet. A hidden entry covers nothing.
+    fn covering(&mut self, position: usize, octet: u8) -> Option<Designated>
+        requires { ⌜ now self .asked < 64 ⌝ }
+        ensures value { λ r. ⌜ r ≡ covering-at (C·Catalogue .entries (now (now (self .entry) .catalogue))) position octet ⌝ }
+        ensures after { λ _. ⌜ now (self .exit) ≡ record { catalogue = now (self .entry) .catalogue; asked = now (self .entry) .asked + 1 } ⌝ }
+    {
+        self.asked += 1;
+        match self.catalogue.entry(position) {
+            Some(entry) => {
+                if entry.covers(octet) {
+                    Some(Designated { position, entry })
+                } else {
+                    None
+                }
             }
+            None => None,
         }
     }
-    None
+
+    // Goes on past hidden entries.
+    fn first_covering(&mut self, octet: u8) -> Option<Designated>
+        requires { ⌜ now self .asked ≡ 0 ⌝ }
+        ensures value { λ r. ⌜ r ≡ finds (C·Catalogue .entries (now (now (self .entry) .catalogue))) octet ⌝ }
+        ensures asked { λ r. ⌜ now (self .exit) .asked ≡ asks r (length (C·Catalogue .entries (now (now (self .entry) .catalogue)))) ⌝ }
+    {
+        for position in 0..self.catalogue.count() {
+            if let Some(designated) = self.covering(position, octet) {
+                return Some(designated);
+            }
+        }
+        None
+    }
 }
 
 // It asks each entry up to the one designated, or all of them where the octet is unknown.
 pub fn find<C: Catalogue>(catalogue: &C, octet: u8) -> Search
     ensures { λ r. ⌜ r ≡ searched (C·Catalogue .entries (now (catalogue .entry))) octet ⌝ }
 {
-    match first_covering(catalogue, octet) {
-        Some(designated) => Search {
-            found: Some(designated),
-            asked: designated.position + 1,
-        },
-        None => Search {
-            found: None,
-            asked: catalogue.count(),
-        },
+    let mut questions = Questions {
+        catalogue,
+        asked: 0,
+    };
+    let found = questions.first_covering(octet);
+    Search {
+        found,
+        asked: questions.asked,
     }
 }
 
@@ -55,7 +81,7 @@ pub fn find<C: Catalogue>(catalogue: &C, octet: u8) -> Search
 pub fn designate<C: Catalogue>(catalogue: &C, octet: u8) -> Option<usize>
     ensures { λ r. ⌜ r ≡ designates (C·Catalogue .entries (now (catalogue .entry))) octet ⌝ }
 {
-    match first_covering(catalogue, octet) {
+    match find(catalogue, octet).found {
         Some(designated) => Some(designated.position),
         None => None,
     }

@@ -125,7 +125,8 @@ fn found_behind_hidden() -> Result<(), Fail> {
     check_eq(designate(&lent, 0x25), Some(1))?;
     check_eq(designate(&view, 0x25), Some(2))?;
     check_eq(counting.asked.get(), 3)?;
-    check_eq(designate(&view, 0x26), None)?;
+    let unknown = find(&view, 0x26);
+    check_eq(unknown.asked, 3)?;
     check_eq(counting.asked.get(), 6)
 }
 

@@ -32,3 +32,19 @@ fn hex_char(d: u8) -> char
         (b'A' + (d - 10)) as char
     }
 }
+
+#[cfg(test)]
+mod tests {
+    use super::HexOctet;
+    use super::HexOctetDisplay;
+    use std::test::*;
+
+    #[test]
+    fn every_octet_is_written(rt: LibcRuntime) -> Result<(), Fail> {
+        for octet in 0..256u16 {
+            let text = HexOctet((octet & 0xff) as u8).to_string(rt.alloc())?;
+            check_eq(text.len(), 2)?;
+        }
+        check_eq(HexOctet(0x0f).to_string(rt.alloc())?.as_str(), "0F")
+    }
+}

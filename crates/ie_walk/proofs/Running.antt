@@ -21,9 +21,9 @@ use Rattle.ie_walk.specs.declared.skip.Frame.{Frame}
 use Rattle.ie_walk.specs.declared.walk.Walk.{Walk}
 use Rattle.ie_catalogue.specs.Refusals.{Refusal}
 use Rattle.ie_catalogue.specs.declared.entry.Entry.{Entry}
-use Rattle.ie_walk.specs.Reading.{Reading, Kind, reading, shape, kind}
+use Rattle.ie_walk.specs.Reading.{Reading, Kind, shape, kind}
 use Rattle.ie_walk.specs.Walks.{Found, stepped, moved, found-as, part-of}
-use Rattle.ie_walk.specs.Runs.{run, onward, at-end, after-token, ended-by, walked, left, resumed, moved-to, Onward}
+use Rattle.ie_walk.specs.Runs.{run, onward, at-end, after-token, ended-by, walked, reads, left, resumed, moved-to, Onward}
 
 pub head-some : (s : Shape) → 0 < head s
 head-some (Fixed n) = omega arith
@@ -84,20 +84,17 @@ walked-more R m p f e = run-more R p (drop p m) f e ∙ ap (λ os. after-token f
 
 -- what a step does to what is ahead of a walk
 module _ {C S : Type 0} (entries : C → List Entry) (framed : S → ℕ → Frame) (demands : S → ℕ → Bool) (w : Walk C S) where
-  abbrev pub read : Reading
-  read = reading (entries (w .catalogue .now)) (framed (w .rule .now)) (demands (w .rule .now))
-
   abbrev pub Step : Result (Option Found) Refusal → Type 0
-  Step s = s ≡ stepped read (w .place) (drop (w .place) (w .message .now))
+  Step s = s ≡ stepped (reads entries framed demands w) (w .place) (drop (w .place) (w .message .now))
 
   pub rest-from : (s : Result (Option Found) Refusal) → Step s → left entries framed demands w ≡ resumed s (left entries framed demands (moved-to w (moved (w .place) s)))
-  rest-from (Ok (Some f)) e = walked-more read (w .message .now) (w .place) f (sym e)
-  rest-from (Ok None) e = run-none read (w .place) (drop (w .place) (w .message .now)) (sym e)
-  rest-from (Err x) e = run-short read (w .place) (drop (w .place) (w .message .now)) x (sym e)
+  rest-from (Ok (Some f)) e = walked-more (reads entries framed demands w) (w .message .now) (w .place) f (sym e)
+  rest-from (Ok None) e = run-none (reads entries framed demands w) (w .place) (drop (w .place) (w .message .now)) (sym e)
+  rest-from (Err x) e = run-short (reads entries framed demands w) (w .place) (drop (w .place) (w .message .now)) x (sym e)
 
   pub onward-from : (s : Result (Option Found) Refusal) → Step s → Onward s w (moved-to w (moved (w .place) s))
   onward-from (Ok (Some f)) e =
-      let size = step-size read (w .place) (drop (w .place) (w .message .now)) f (sym e) in
+      let size = step-size (reads entries framed demands w) (w .place) (drop (w .place) (w .message .now)) f (sym e) in
       let long = length-drop (w .place) (w .message .now) in
       (size .2, omega (arith, size .0), refl, omega (arith, size .0, size .1, long))
   onward-from (Ok None) e = tt

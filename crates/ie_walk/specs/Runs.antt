@@ -1,6 +1,7 @@
 -- The whole walk.
 --   Run       the tokens of a walk, and the fault that ended it, if one did
 --   walked    the walk over a message whose imperative part ends at `end`
+--   reads     what a walk's catalogue and skip rule say of each octet
 --   left      what is ahead of a walk
 --   resumed   a step's outcome, before what is ahead after it
 --   moved-to  the walk at another place, and else the same
@@ -49,8 +50,11 @@ run R p zero (o ∷ os) = onward (stepped R p (o ∷ os)) (λ k. run R (p + 1) k
 abbrev pub walked : Reading → List ℕ → ℕ → Run
 walked R m end = run R end 0 (drop end m)
 
+abbrev pub reads : {C S : Type 0} → (C → List Entry) → (S → ℕ → Frame) → (S → ℕ → Bool) → Walk C S → Reading
+reads entries framed demands w = reading (entries (w .catalogue .now)) (framed (w .rule .now)) (demands (w .rule .now))
+
 abbrev pub left : {C S : Type 0} → (C → List Entry) → (S → ℕ → Frame) → (S → ℕ → Bool) → Walk C S → Run
-left entries framed demands w = walked (reading (entries (w .catalogue .now)) (framed (w .rule .now)) (demands (w .rule .now))) (w .message .now) (w .place)
+left entries framed demands w = walked (reads entries framed demands w) (w .message .now) (w .place)
 
 abbrev pub resumed : Result (Option Found) Refusal → Run → Run
 resumed (Ok (Some f)) r = after-token f r

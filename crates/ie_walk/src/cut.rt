@@ -23,7 +23,7 @@ pub struct Cut<'m> {
     pub value: &'m [u8],
 }
 
-pub fn shape_of_entry(entry: &Entry) -> Shape
+pub(crate) fn shape_of_entry(entry: &Entry) -> Shape
     ensures { λ r. ⌜ r ≡ entry-shape (now (entry .entry)) ⌝ }
 {
     match entry.row() {
@@ -37,7 +37,7 @@ pub fn shape_of_entry(entry: &Entry) -> Shape
     }
 }
 
-pub fn shape_of_frame(frame: Frame) -> Shape
+pub(crate) fn shape_of_frame(frame: Frame) -> Shape
     ensures { λ r. ⌜ r ≡ frame-shape frame ⌝ }
 {
     match frame {
@@ -73,7 +73,7 @@ fn measured<'m>(
 }
 
 // The IE at the front of `octets`, whose first is its IEI.
-pub fn first_ie<'m>(shape: Shape, octets: &'m [u8]) -> Result<Cut<'m>, OctetFault>
+pub(crate) fn first_ie<'m>(shape: Shape, octets: &'m [u8]) -> Result<Cut<'m>, OctetFault>
     ensures { λ r. ⌜ cut-meaning r ≡ cut-of (now (octets .entry)) (head shape) (needed shape (now (octets .entry))) ⌝ }
 {
     let at_hand = octets.len();

@@ -2,7 +2,7 @@
 ghost use mathlib.Core.Path.{_≡_};
 ghost use Rattle.ie_walk.specs.Walks.{ie-in};
 
-// `whole` begins with the IEI octet; `value` is what follows the head, and its end.
+// `whole` is all its octets, the IEI first; `value` is what follows the IEI and the length octets.
 #[derive(Clone, Copy)]
 pub struct Ie<'m> {
     pub iei: u8,

@@ -3,9 +3,9 @@ ghost use mathlib.Core.Path.{_≡_};
 ghost use lib.ListN.{drop};
 ghost use Rattle.ie_catalogue.specs.Refusals.{answered};
 ghost use Rattle.ie_walk.specs.Faults.{message-refusal, starting};
-ghost use Rattle.ie_walk.specs.Reading.{reading, shaped, sorted};
+ghost use Rattle.ie_walk.specs.Reading.{shaped, sorted};
 ghost use Rattle.ie_walk.specs.Walks.{ie-of, part-in-result, outcome, stepped, moved, found, found-in, part-in};
-ghost use Rattle.ie_walk.specs.Runs.{left, resumed, moved-to, Onward};
+ghost use Rattle.ie_walk.specs.Runs.{reads, left, resumed, moved-to, Onward};
 use crate::cut::Shape;
 use crate::cut::first_ie;
 use crate::cut::shape_of_entry;
@@ -106,7 +106,7 @@ impl<'m, 'c, 'r, C: Catalogue, S: SkipRule> Walk<'m, 'c, 'r, C, S> {
 
     // What stands at the walk's place, which it keeps.
     fn ahead(&self) -> Result<Option<Token<'m>>, MessageFault>
-        ensures value { λ r. ⌜ outcome r ≡ stepped (reading (C·Catalogue .entries (now (now (self .entry) .catalogue))) (S·SkipRule .framed (now (now (self .entry) .rule))) (S·SkipRule .demands (now (now (self .entry) .rule)))) (now (self .entry) .place) (drop (now (self .entry) .place) (now (now (self .entry) .message))) ⌝ }
+        ensures value { λ r. ⌜ outcome r ≡ stepped (reads (C·Catalogue .entries) (S·SkipRule .framed) (S·SkipRule .demands) (now (self .entry))) (now (self .entry) .place) (drop (now (self .entry) .place) (now (now (self .entry) .message))) ⌝ }
         ensures rest { λ r. ⌜ left (C·Catalogue .entries) (S·SkipRule .framed) (S·SkipRule .demands) (now (self .entry)) ≡ resumed (outcome r) (left (C·Catalogue .entries) (S·SkipRule .framed) (S·SkipRule .demands) (moved-to (now (self .entry)) (moved (now (self .entry) .place) (outcome r)))) ⌝ }
         ensures onward { λ r. ⌜ Onward (outcome r) (now (self .entry)) (moved-to (now (self .entry)) (moved (now (self .entry) .place) (outcome r))) ⌝ }
     {
@@ -125,7 +125,7 @@ impl<'m, 'c, 'r, C: Catalogue, S: SkipRule> Walk<'m, 'c, 'r, C, S> {
 
     // The next token, none at the end, or refusal 3, which the same step then repeats.
     pub fn step(&mut self) -> Result<Option<Token<'m>>, MessageFault>
-        ensures value { λ r. ⌜ outcome r ≡ stepped (reading (C·Catalogue .entries (now (now (self .entry) .catalogue))) (S·SkipRule .framed (now (now (self .entry) .rule))) (S·SkipRule .demands (now (now (self .entry) .rule)))) (now (self .entry) .place) (drop (now (self .entry) .place) (now (now (self .entry) .message))) ⌝ }
+        ensures value { λ r. ⌜ outcome r ≡ stepped (reads (C·Catalogue .entries) (S·SkipRule .framed) (S·SkipRule .demands) (now (self .entry))) (now (self .entry) .place) (drop (now (self .entry) .place) (now (now (self .entry) .message))) ⌝ }
         ensures after { λ r. ⌜ now (self .exit) ≡ moved-to (now (self .entry)) (moved (now (self .entry) .place) (outcome r)) ⌝ }
         ensures rest { λ r. ⌜ left (C·Catalogue .entries) (S·SkipRule .framed) (S·SkipRule .demands) (now (self .entry)) ≡ resumed (outcome r) (left (C·Catalogue .entries) (S·SkipRule .framed) (S·SkipRule .demands) (now (self .exit))) ⌝ }
         ensures onward { λ r. ⌜ Onward (outcome r) (now (self .entry)) (now (self .exit)) ⌝ }

@@ -22,7 +22,7 @@ use Rattle.ie_walk.specs.Walks.{Part, Found}
 use Rattle.iewalk.specs.declared.line.Line.{Line}
 use Rattle.iewalk.specs.declared.line.Line.the-variants.{Known, Skippable, Demanding, Truncated, Refused, End}
 
--- " iei=12 at=9 size=2"
+-- "12 at=9 size=2"
 abbrev pub span-text : HexOctet → ℕ → ℕ → List ℕ
 span-text iei place size = hex-octet (iei .0) ++ (codes " at=" ++ (decimal place ++ (codes " size=" ++ decimal size)))
 

@@ -3,7 +3,6 @@
 --   Appends          what a message adds to the text, under any catalogue and skip rule
 --   Listing          the program's output for an input
 use mathlib.Core.Path.{_≡_}
-use mathlib.Core.Bool.{false, _||_}
 use mathlib.Core.List.{List, [], _∷_, _++_, map}
 use Prim.Native.Nat.{ℕ, _+_, _≤_, _<_}
 use lib.ListN.{length, drop}
@@ -39,7 +38,7 @@ pub record Appends (R : Reading) (m : List ℕ) (end : ℕ) (before after : List
 
 -- the shipped catalogue, and comprehension over 5GS
 abbrev pub shipped : Reading
-shipped = reading (map meant table) fiveGs (λ octet. false || comprehended (fiveGs octet) octet)
+shipped = reading (map meant table) fiveGs (λ octet. comprehended (fiveGs octet) octet)
 
 pub record Listing (m output : List ℕ) : Type 0 where
   pub too-long : 4096 < length m → output ≡ text (Refused 1 ∷ [])

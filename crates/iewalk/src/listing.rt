@@ -19,6 +19,7 @@ use ie_walk::comprehension::Comprehension;
 use ie_walk::comprehension::ComprehensionSkipRule;
 use ie_walk::divide::Division;
 use ie_walk::divide::divide;
+use ie_walk::faults::MessageFault;
 use ie_walk::five_gs::FiveGs;
 use ie_walk::five_gs::FiveGsSkipRule;
 use ie_walk::ie::Token;
@@ -29,7 +30,8 @@ use std::alloc::Global;
 use ul_nas_transport::catalogue;
 use ul_nas_transport::imperative_end;
 
-const LONGEST_INPUT: usize = 4096;
+// The most octets that the program takes.
+pub const LONGEST_INPUT: usize = 4096;
 
 fn line_of(token: Token<'_>) -> Line
     ensures { λ r. ⌜ r ≡ ie-line (found-in (token .entry)) ⌝ }
@@ -108,13 +110,13 @@ fn push_message<C: Catalogue, S: SkipRule>(
     }
 }
 
-// What the program prints for an input of which it read at most one octet more than it takes.
+// The program's whole output for its input.
 pub fn listing(heap: Global, message: &[u8]) -> Result<String, AllocError>
     ensures { λ r. ⌜ made r (λ s. Listing (now (message .entry)) (string-bytes s)) ⌝ }
 {
     let mut out = String::new(heap);
     if message.len() > LONGEST_INPUT {
-        push_line(&mut out, Line::Refused(1))?;
+        push_line(&mut out, Line::Refused(MessageFault::TooLong.number()))?;
         return Ok(out);
     }
     let rule = Comprehension { below: FiveGs };

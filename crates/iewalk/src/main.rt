@@ -1,4 +1,6 @@
 // iewalk: how a UL NAS TRANSPORT message on standard input divides into information elements.
+use listing::LONGEST_INPUT;
+use listing::listing;
 use std::error::AnyError;
 use std::io::Read;
 
@@ -7,8 +9,11 @@ mod listing;
 
 fn run(rt: &LibcRuntime) -> Result<(), AnyError> {
     let mut input = Vec::new(rt.alloc());
-    rt.stdin().take(4097).read_to_end(&mut input)?;
-    let text = listing::listing(rt.alloc(), input.as_slice())?;
+    // one octet more than is taken, so that a longer input is seen to be longer
+    rt.stdin()
+        .take(LONGEST_INPUT as u64 + 1)
+        .read_to_end(&mut input)?;
+    let text = listing(rt.alloc(), input.as_slice())?;
     rt.print(text)?;
     Ok(())
 }

@@ -12,7 +12,7 @@ use ie_catalogue::row::Format;
 use ie_catalogue::row::Presence;
 use ie_catalogue::row::Test;
 
-pub const ROWS: [EntryRow; 8] = [
+const ROWS: [EntryRow; 8] = [
     // PDU session ID
     EntryRow {
         iei: 0x12,
@@ -140,7 +140,7 @@ pub fn catalogue() -> LentRows<'static>
     }
 }
 
-// Behind the 6 octets up to the payload container's length comes the container, whose length they end with.
+// Octets 4 and 5 give the length of the payload container, which follows them and ends the imperative part.
 pub fn imperative_end(message: &[u8]) -> usize
     ensures { λ r. ⌜ r ≡ imperative-end (now (message .entry)) ⌝ }
 {

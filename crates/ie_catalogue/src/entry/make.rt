@@ -1,6 +1,6 @@
 // How an entry comes to be, and which octets it covers.
 ghost use mathlib.Core.Path.{_≡_};
-ghost use Rattle.ie_catalogue.specs.Entries.{making, meant, absent, covers};
+ghost use Rattle.ie_catalogue.specs.Entries.{making, meant, absent, covers, presence-of, expect-of, forbid-of};
 ghost use Rattle.ie_catalogue.specs.Refusals.{answered, entry-refusal};
 ghost use Rattle.ie_catalogue.specs.Spans.{span};
 ghost use Rattle.ie_catalogue.specs.Views.{unless-hidden};
@@ -9,6 +9,8 @@ use crate::entry::Entry;
 use crate::refusal::EntryRefusal;
 use crate::row::EntryRow;
 use crate::row::Format;
+use crate::row::Presence;
+use crate::row::Test;
 
 impl Entry {
     // The entry of a row, or refusal 7 where a field is out of its bounds.
@@ -55,6 +57,36 @@ impl Entry {
                 _ => octet == row.iei,
             },
             None => false,
+        }
+    }
+
+    // The absent entry is optional.
+    pub fn presence(&self) -> Presence
+        ensures { λ r. ⌜ r ≡ presence-of (now (self .entry)) ⌝ }
+    {
+        match self.row {
+            Some(row) => row.presence,
+            None => Presence::Optional,
+        }
+    }
+
+    // When the entry is expected; the absent one never is.
+    pub fn expect(&self) -> Test
+        ensures { λ r. ⌜ r ≡ expect-of (now (self .entry)) ⌝ }
+    {
+        match self.row {
+            Some(row) => row.expect,
+            None => Test::Never,
+        }
+    }
+
+    // When the entry is forbidden; the absent one never is.
+    pub fn forbid(&self) -> Test
+        ensures { λ r. ⌜ r ≡ forbid-of (now (self .entry)) ⌝ }
+    {
+        match self.row {
+            Some(row) => row.forbid,
+            None => Test::Never,
         }
     }
 
