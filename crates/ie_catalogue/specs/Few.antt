@@ -1,4 +1,4 @@
--- Lists of at most 64: what makes the meaning of each catalogue one.
+-- Lists of at most 64, for each kind of catalogue: what its ghost member `few` is.
 use mathlib.Core.List.{List, map}
 use Prim.Native.Nat.{_≤_}
 use native.Mathlib.Omega.{arith}

@@ -1,4 +1,5 @@
--- The octets that an entry covers, from a first one up to an end.
+-- The octets that an entry covers.
+--   span   the first of them, and the end behind the last
 use Prim.Native.Nat.{ℕ, _+_, _*_}
 use Rattle.std.specs.declared.option.Option.{Option}
 use Rattle.std.specs.declared.option.Option.the-variants.{Some, None}

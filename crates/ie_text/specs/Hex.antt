@@ -1,10 +1,11 @@
--- An octet as two upper-case hexadecimal digits.
+-- Octets in hexadecimal.
+--   hex-digit   the ASCII code of a digit below 16, upper case: '0' is 48, 'A' is 65
+--   hex-octet   an octet as two digits
 use mathlib.Core.Bool.{cond}
 use mathlib.Core.List.{List, [], _∷_}
 use Prim.Native.Nat.{ℕ, _+_, _/_, _%_}
 use lib.Dec.{ltb}
 
--- the ASCII code of a digit below 16: '0' is 48, and 'A' is 65
 abbrev pub hex-digit : ℕ → ℕ
 hex-digit d = cond (ltb d 10) (48 + d) (55 + d)
 

@@ -1,7 +1,9 @@
 -- How many octets an IE takes, and what of it is its value.
---   head     IEI and length octets
---   needed   the octets that an IE at the front asks for, as far as they tell
---   cut-of   the IE and its value, or the octets needed and at hand
+--   head          IEI and length octets
+--   value-length  the octets of the value, as the length octets give them
+--   needed        the octets that an IE at the front asks for, as far as they tell
+--   cut-of        the IE and its value, or the octets needed and at hand
+--   cut-meaning   a cut by the octets that it borrows
 use mathlib.Core.Bool.{cond}
 use mathlib.Core.List.{List}
 use Prim.Native.Nat.{ℕ, _+_, _*_}

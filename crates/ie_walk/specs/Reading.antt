@@ -1,5 +1,6 @@
 -- What catalogue and skip rule together say of each octet.
 --   Reading         the entries, and the skip rule's two functions
+--   shaped, sorted  shape and kind, given what the octet designates
 --   shape           a known octet is framed by its entry, an unknown one by the skip rule
 --   kind            known at a position, skippable or demanding
 use mathlib.Core.Bool.{Bool, true, false}

@@ -1,4 +1,6 @@
--- What follows an IEI: of a known IE by its entry's format, of an unknown one by its frame.
+-- What follows an IEI.
+--   entry-shape   of a known IE: by its entry's format, format 3 with its length
+--   frame-shape   of an unknown IE: by its frame
 use Prim.Native.Nat.{ℕ}
 use Rattle.std.specs.declared.option.Option.{Option}
 use Rattle.std.specs.declared.option.Option.the-variants.{Some, None}
@@ -11,7 +13,6 @@ use Rattle.ie_walk.specs.declared.skip.Frame.the-variants as frame
 use Rattle.ie_walk.specs.declared.cut.Shape.{Shape}
 use Rattle.ie_walk.specs.declared.cut.Shape.the-variants.{Fixed, Tlv, TlvE}
 
--- format 3 by its length
 abbrev pub format-shape : Format → ℕ → Shape
 format-shape format.TvHalf least = Fixed 0
 format-shape format.T least = Fixed 0

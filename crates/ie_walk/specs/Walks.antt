@@ -1,7 +1,9 @@
 -- What the walk finds at a place.
 --   Part, Found   an IE by its octets; with its kind
+--   ie-of         the IE of a given shape at the front of octets, or its fault
 --   stepped       one step over the octets that are left, the first of which stands at `place`
 --   moved         where the next step begins
+--   ie-in, part-in, found-in, part-in-result   a token's IE, and what they borrow
 --   outcome       a step's answer by what it borrows, a refusal by its number and values
 use mathlib.Core.List.{List, [], _∷_}
 use Prim.Native.Nat.{ℕ, _+_}
@@ -40,7 +42,6 @@ abbrev pub part-of : ℕ → ℕ → CutResult → Result Part (Placed IeFault)
 part-of iei place (Ok c) = Ok (record { iei = iei; place = place; whole = c .0; value = c .1 })
 part-of iei place (Err e) = Err (record { thing = record { iei = iei; octets = e }; place = place })
 
--- the IE of a given shape at the front of the octets that begin at `place`
 abbrev pub ie-of : Shape → ℕ → ℕ → List ℕ → Result Part (Placed IeFault)
 ie-of s iei place os = part-of iei place (cut-of os (head s) (needed s os))
 

@@ -1,5 +1,6 @@
--- Where the imperative part ends: 6 octets, the last two of which give the length of the payload container
--- that follows them, the high one first; 6 where the message is shorter.
+-- Where the imperative part ends.
+--   imperative-end   6 octets, the last two of which give the length of the payload container that follows
+--                    them, the high one first; 6 where the message is shorter
 use mathlib.Core.Bool.{cond}
 use mathlib.Core.List.{List}
 use Prim.Native.Nat.{ℕ, _+_, _*_}
