@@ -8,6 +8,7 @@ ghost use Rattle.iewalk.specs.Lines.{line-text, text};
 use ie_text::HexOctet;
 use ie_text::HexOctetDisplay;
 use std::alloc::AllocError;
+use std::error::Error;
 use std::fmt;
 
 #[derive(Clone, Copy)]
@@ -75,11 +76,23 @@ pub impl fmt::Display for Line as LineDisplay {
     }
 }
 
-pub(crate) fn push_line(out: &mut String, line: Line) -> Result<(), AllocError>
+// Want of memory. Only `push_line` can make one, so nothing else can give up without cause.
+#[derive(Debug, Drop)]
+pub struct OutOfMemory(AllocError);
+
+pub impl fmt::Display for OutOfMemory as OutOfMemoryDisplay {
+    fn fmt<W: fmt::Write>(&self, f: &mut fmt::Formatter<W>) -> fmt::Result {
+        f.write_str("out of memory")
+    }
+}
+
+pub impl Error for OutOfMemory as OutOfMemoryError {}
+
+pub(crate) fn push_line(out: &mut String, line: Line) -> Result<(), OutOfMemory>
     ensures { λ r. ⌜ made r (λ _. string-bytes (now (out .exit)) ≡ string-bytes (now (out .entry)) ++ text (line ∷ [])) ⌝ }
 {
     match writeln!(out, "{line}") {
         Ok(()) => Ok(()),
-        Err(_) => Err(AllocError),
+        Err(_) => Err(OutOfMemory(AllocError)),
     }
 }

@@ -11,6 +11,7 @@ ghost use Rattle.ie_walk.specs.Walks.{found-in};
 ghost use Rattle.iewalk.specs.Lines.{text, ie-line, closing-line};
 ghost use Rattle.iewalk.specs.Listing.{Appends, Listing};
 use crate::line::Line;
+use crate::line::OutOfMemory;
 use crate::line::push_line;
 use ie_catalogue::catalogue::Catalogue;
 use ie_catalogue::lent::LentRowsCatalogue;
@@ -25,7 +26,6 @@ use ie_walk::five_gs::FiveGsSkipRule;
 use ie_walk::ie::Token;
 use ie_walk::skip::SkipRule;
 use ie_walk::walk::Walk;
-use std::alloc::AllocError;
 use std::alloc::Global;
 use ul_nas_transport::catalogue;
 use ul_nas_transport::imperative_end;
@@ -79,7 +79,7 @@ fn last_line(division: Division) -> Line
 fn push_ies<C: Catalogue, S: SkipRule>(
     out: &mut String,
     mut walk: Walk<'_, '_, '_, C, S>,
-) -> Result<(), AllocError>
+) -> Result<(), OutOfMemory>
     ensures { λ r. ⌜ made r (λ _. string-bytes (now (out .exit)) ≡ string-bytes (now (out .entry)) ++ text (map ie-line (left (C·Catalogue .entries) (S·SkipRule .framed) (S·SkipRule .demands) (walk .entry) .tokens))) ⌝ }
 {
     while let Ok(Some(token)) = walk.step() {
@@ -95,7 +95,7 @@ fn push_message<C: Catalogue, S: SkipRule>(
     rule: &S,
     message: &[u8],
     imperative_end: usize,
-) -> Result<(), AllocError>
+) -> Result<(), OutOfMemory>
     ensures { λ r. ⌜ made r (λ _. Appends (reading (C·Catalogue .entries (now (catalogue .entry))) (S·SkipRule .framed (now (rule .entry))) (S·SkipRule .demands (now (rule .entry)))) (now (message .entry)) «imperative_end» (string-bytes (now (out .entry))) (string-bytes (now (out .exit)))) ⌝ }
 {
     match Walk::start(catalogue, rule, message, imperative_end) {
@@ -111,7 +111,7 @@ fn push_message<C: Catalogue, S: SkipRule>(
 }
 
 // The program's whole output for its input.
-pub fn listing(heap: Global, message: &[u8]) -> Result<String, AllocError>
+pub fn listing(heap: Global, message: &[u8]) -> Result<String, OutOfMemory>
     ensures { λ r. ⌜ made r (λ s. Listing (now (message .entry)) (string-bytes s)) ⌝ }
 {
     let mut out = String::new(heap);
@@ -128,6 +128,7 @@ pub fn listing(heap: Global, message: &[u8]) -> Result<String, AllocError>
 #[cfg(test)]
 mod tests {
     use super::listing;
+    use crate::line::OutOfMemoryDebug;
     use std::test::*;
 
     #[test]

@@ -1,4 +1,5 @@
 // iewalk: how a UL NAS TRANSPORT message on standard input divides into information elements.
+use line::OutOfMemoryError;
 use listing::LONGEST_INPUT;
 use listing::listing;
 use std::error::AnyError;
