@@ -1,4 +1,6 @@
 // What is known: catalogues of information elements.
+#![tactic(auto)]
+
 mod bounds;
 pub mod catalogue;
 pub mod checked;

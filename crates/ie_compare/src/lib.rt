@@ -1,4 +1,6 @@
 // When two messages say the same.
+#![tactic(auto)]
+
 ghost use Rattle.ie_compare.specs.Laws.{Compares};
 
 // The comparison law, until a call that compares two messages carries it.

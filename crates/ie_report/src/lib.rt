@@ -1,4 +1,6 @@
 // What a message says: order rules, rows, diagnoses, and the judging of one IE.
+#![tactic(auto)]
+
 mod closing;
 mod diagnose;
 pub mod diagnosis;

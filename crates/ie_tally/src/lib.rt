@@ -1,4 +1,6 @@
 // Tallies: what the parts of a report, or many reports, come to together.
+#![tactic(auto)]
+
 pub mod positions;
 pub mod severity;
 pub mod skipped;

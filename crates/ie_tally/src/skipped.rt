@@ -29,7 +29,8 @@ impl Tally for Skipped {
 
     fn join(self, other: Skipped) -> Skipped
         ensures value { result ≡ sums self other }
-        ensures ies_value { (result.ies ≡ min (self.ies + other.ies) 4294967295) × (result.octets ≡ min (self.octets + other.octets) 4294967295) }
+        ensures ies_value { result.ies ≡ min (self.ies + other.ies) 4294967295 }
+        ensures octets_value { result.octets ≡ min (self.octets + other.octets) 4294967295 }
     {
         Skipped {
             ies: self.ies.saturating_add(other.ies),

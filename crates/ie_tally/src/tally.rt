@@ -23,8 +23,8 @@ pub trait Tally: Sized {
 
 // One after the other.
 fn fold_all<T: Tally + Copy>(tallies: &[T]) -> T
-    ensures value { result ≡ total neutral joined tallies.now }
-    ensures parts { (xs ys : List T) → xs ++ ys ≡ tallies.now → result ≡ joined (total neutral joined xs) (total neutral joined ys) }
+    ensures value { result ≡ total T.neutral T.joined tallies.now }
+    ensures parts { (xs ys : List T) → xs ++ ys ≡ tallies.now → result ≡ T.joined (total T.neutral T.joined xs) (total T.neutral T.joined ys) }
 {
     let mut sum = T::none();
     for one in tallies {
@@ -35,8 +35,8 @@ fn fold_all<T: Tally + Copy>(tallies: &[T]) -> T
 
 // The tally of all; wherever the list is parted, it is the join of the tallies of both parts.
 pub fn fold<T: Tally + Copy>(tallies: &[T]) -> T
-    ensures value { result ≡ total neutral joined tallies.now }
-    ensures parts { (xs ys : List T) → xs ++ ys ≡ tallies.now → result ≡ joined (total neutral joined xs) (total neutral joined ys) }
+    ensures value { result ≡ total T.neutral T.joined tallies.now }
+    ensures parts { (xs ys : List T) → xs ++ ys ≡ tallies.now → result ≡ T.joined (total T.neutral T.joined xs) (total T.neutral T.joined ys) }
 {
     fold_all(tallies)
 }

@@ -1,4 +1,6 @@
 // Octets as text, for the programs.
+#![tactic(auto)]
+
 ghost use Rattle.std.specs.Prelude.{◌≡◌, ◌<◌, [], ◌∷◌, Some};
 ghost use Rattle.std.proofs.Math.Utf8.{encode};
 ghost use Rattle.ie_text.specs.Hex.{hex_digit, hex_octet};

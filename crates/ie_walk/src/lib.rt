@@ -1,4 +1,6 @@
 // How octets divide: the walk over the non-imperative part of a layer 3 message.
+#![tactic(auto)]
+
 pub mod comprehension;
 mod cut;
 pub mod divide;

@@ -1,4 +1,6 @@
 // iewalk: how a UL NAS TRANSPORT message on standard input divides into information elements.
+#![tactic(auto)]
+
 use listing::{LONGEST_INPUT, listing};
 use std::io::Read;
 

@@ -1,4 +1,6 @@
 // UL NAS TRANSPORT (TS 24.501, Release 16): its known IEs, and where its imperative part ends.
+#![tactic(auto)]
+
 ghost use Rattle.std.specs.Prelude.{◌≡◌, map};
 ghost use Rattle.ie_catalogue.specs.Entries.{meant};
 ghost use Rattle.ie_catalogue.specs.Lending.{lent_entries};

@@ -1,4 +1,6 @@
 // Worked examples of the definitions that contracts cite.
+#![tactic(auto)]
+
 ghost use Rattle.worked_examples.specs.Alikes.{ToldApart, PlacesApart, SameSaid};
 ghost use Rattle.worked_examples.specs.Examples.{Stand, FirstCause};
 

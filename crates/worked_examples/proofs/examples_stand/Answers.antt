@@ -7,4 +7,4 @@ use Rattle.worked_examples.proofs.examples_stand.Goals as goal
 
 pub returns : goal.returns
 unfolding some_below report outcome strike skipped_before
-returns c = record { reports = refl; first-cause = (refl, refl, refl); apart = told_apart; places = places_apart; said = same_said }
+returns c = record { reports = refl; first_cause = (refl, refl, refl); apart = told_apart; places = places_apart; said = same_said }

@@ -9,8 +9,8 @@ loop-one-preserved g c =
     let m = g.T.Tally in
     let x = c.one-item.result in
     let rest = total m.neutral m.joined in
-    let more = at_drop_more (λ l. m.joined c.loop-one.sum (rest l)) c.args.tallies.now c.loop-one.one_Index x c.loop-one-test.true in
-    let apart = g.met.T.Tally.assoc c.loop-one.sum x (rest (drop (c.loop-one.one_Index + 1) c.args.tallies.now)) in
+    let more = at_drop_more (λ l. m.joined c.loop-one.sum (rest l)) c.args.tallies.now c.loop-one.one-index x c.loop-one-test.true in
+    let apart = g.met.T.Tally.assoc c.loop-one.sum x (rest (drop (c.loop-one.one-index + 1) c.args.tallies.now)) in
     let joined = c.join-sum.ensures in
     let inv = c.loop-one.invariant in
     let read = c.one-item.is in
@@ -21,6 +21,6 @@ returns g c =
     let m = g.T.Tally in
     let met = g.met.T.Tally in
     let laws : Laws m.neutral m.joined = record { left = met.left; right = met.right; assoc = met.assoc } in
-    let none = at_drop_all (λ l. m.joined c.loop-one.sum (total m.neutral m.joined l)) c.args.tallies.now c.loop-one.one_Index c.loop-one-test.false in
+    let none = at_drop_all (λ l. m.joined c.loop-one.sum (total m.neutral m.joined l)) c.args.tallies.now c.loop-one.one-index c.loop-one-test.false in
     let all = sym (met.right c.loop-one.sum) ∙ sym none ∙ c.loop-one.invariant in
     record { value = all; parts = λ xs ys e. all ∙ ap (total m.neutral m.joined) (sym e) ∙ total_append laws xs ys }

@@ -6,7 +6,7 @@ pub measured-requires : goal.measured-requires
 measured-requires c = record { after = take_rest c.args.octets.now 1; within = search rules; small = omega arith }
 
 pub measured-requires-in-len2-up : goal.measured-requires-in-len2-up
-measured-requires-in-len2-up c = record { after = take_rest c.args.octets.now 2; within = search rules; small = omega (arith, c.type-inv.octets 1) }
+measured-requires-in-len2-up c = record { after = take_rest c.args.octets.now 2; within = search rules; small = omega (arith, c.type_inv.octets 1) }
 
 pub measured-requires-in-len3-up : goal.measured-requires-in-len3-up
-measured-requires-in-len3-up c = record { after = take_rest c.args.octets.now 3; within = search rules; small = omega (arith, c.type-inv.octets 1, c.type-inv.octets 2) }
+measured-requires-in-len3-up c = record { after = take_rest c.args.octets.now 3; within = search rules; small = omega (arith, c.type_inv.octets 1, c.type_inv.octets 2) }

@@ -10,5 +10,5 @@ returns g c =
     let R = reading (g.C.Catalogue.entries c.args.catalogue.now) (g.S.SkipRule.framed c.args.rule.now) (g.S.SkipRule.demands c.args.rule.now) in
     let m = c.args.message.now in
     let end = c.args.imperative_end in
-    let e : counted_in c.count-rest.result ≡ counted no_totals (walked R m end) = search rules in
-    record { value = search rules; division = counted_divides R m end c.count-rest.result e }
+    let e : counted_in c.count_rest.result ≡ counted no_totals (walked R m end) = search rules in
+    record { value = search rules; division = counted_divides R m end c.count_rest.result e }
