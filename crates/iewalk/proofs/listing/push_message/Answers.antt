@@ -29,7 +29,7 @@ returns-in-Ok-divide g c =
     let middle = string_bytes c.push_ies.new.out in
     let after = string_bytes c.push_line.new.out in
     let h = started m end c.in-Ok.walk (record { message = c.args.message; place = end; catalogue = c.args.catalogue; rule = c.args.rule }) c.in-Ok.ensures in
-    let a = c.in_ok-push_ies.ensures ∙ ap (λ w. before ++ text (map ie_line (left E F D w).tokens)) h.2 in
+    let a = c.in_ok-push_ies-in-Ok.ensures ∙ ap (λ w. before ++ text (map ie_line (left E F D w).tokens)) h.2 in
     made_with c.push_line.result (after ≡ middle ++ text (c.last_line.result ∷ [])) (Appends R m end before after)
     (λ b. appended R m end c.in-Ok-divide.division c.in-Ok-divide.ensures.division before middle after h.0 h.1 a (b ∙ ap (λ x. middle ++ text (x ∷ [])) c.last_line.ensures))
     c.push_line.ensures
