@@ -1,5 +1,5 @@
 -- The comparison law, for any way of judging.
-use Rattle.std.proofs.Common.{◌≡◌, ℕ, ◌+◌, Bool, false, cond, ltb, ◌↔◌, List, [], ◌∷◌, ◌++◌, map, length, Some, None, Option, sym, refl, ap, ◌∙◌, subst, ap₂, subst₂, arith}
+use Rattle.std.proofs.Common.{◌≡◌, ℕ, false, cond, ltb, ◌↔◌, List, [], ◌∷◌, ◌++◌, map, length, Some, None, Option, sym, refl, ap, ◌∙◌, subst, ap₂, subst₂, arith}
 use Rattle.std.specs.List.{flat_map, filter, AllByRecursion}
 use Rattle.std.specs.Option.{option_to_list, option_map}
 use Rattle.std.proofs.lemmas.Bool.{le-ltb, and_right}
@@ -15,17 +15,17 @@ use Rattle.ie_report.specs.Judging.{Step}
 use Rattle.ie_report.specs.Rows.{skips}
 use Rattle.ie_report.specs.Diagnosing.{of_row, raises, diagnosis_of, afterwards}
 use Rattle.ie_report.specs.Reports.{Message, imperative, tokens, taken_in, diagnoses_in, rows_of, Report, report}
-use Rattle.ie_compare.specs.Strikes.{whole, strike, SameWhenStruck, skipped_below, skipped_before}
+use Rattle.ie_compare.specs.Strikes.{whole, SameWhenStruck, skipped_below, skipped_before}
 use Rattle.ie_compare.specs.Alikes.{Face, face, Alike, Agree, PlacesAgree}
 use Rattle.ie_compare.specs.Laws.{Octet, CountsStruck, Law}
 use Rattle.ie_compare.proofs.Pairs.{Pairs, none, more, pairs_map, pairs_same, pairs_append, pairs_wise, pairs_joined, pairs_through}
 use Rattle.ie_compare.proofs.Parts.{Within, kept_of, tail_of, strike_is, same_end, same_parts}
 use Rattle.ie_compare.proofs.Places.{before}
-use Rattle.ie_compare.proofs.Norms.{Norm, norms, Stands, stand, fronts}
+use Rattle.ie_compare.proofs.Norms.{Norm, norms, Stands, stand}
 use Rattle.ie_compare.proofs.Telling.{taken_faces, taken_told, same_diagnosed, same_severity, AtZero, afterwards_at_zero}
 use Rattle.ie_compare.proofs.Decoding.{decoded, kept_decoded}
 use Rattle.ie_compare.proofs.Counting.{counts_struck}
-use Rattle.ie_compare.proofs.Declining.{empty, Whole, whole_when, truncated_when}
+use Rattle.ie_compare.proofs.Declining.{empty, whole_when, truncated_when}
 
 -- nothing is skipped before the first octet
 before_first : (fs : List Found) → before 0 fs ≡ 0

@@ -1,5 +1,5 @@
 -- A row's face tells the octets of its IE.
-use Rattle.std.proofs.Common.{◌≡◌, ℕ, zero, suc, ◌+◌, ◌-◌, ◌*◌, ◌/◌, ◌%◌, ◌<◌, List, [], ◌∷◌, ◌++◌, map, length, drop, sym, refl, ap, ◌∙◌, subst, ap₂, arith}
+use Rattle.std.proofs.Common.{◌≡◌, ℕ, zero, suc, ◌+◌, ◌-◌, ◌/◌, ◌%◌, List, [], ◌∷◌, ◌++◌, map, length, drop, sym, refl, ap, ◌∙◌, subst, ap₂, arith}
 use Rattle.std.specs.List.{flat_map, AllByRecursion}
 use Rattle.ie_walk.specs.declared.cut.Shape.{Shape}
 use Rattle.ie_walk.specs.declared.cut.Shape.TheVariants.{Fixed, Tlv, TlvE}
@@ -12,7 +12,7 @@ use Rattle.ie_compare.specs.Alikes.{Face, face}
 use Rattle.ie_compare.specs.Laws.{Octet}
 use Rattle.ie_compare.proofs.Everys.{every_drop, every_left, every_kept, every_joined}
 use Rattle.ie_compare.proofs.Parts.{stays_ie, ies_of, tail_of, kept_of, each_kept, covered}
-use Rattle.ie_compare.proofs.Norms.{Norm, norms_from, norms, fronts}
+use Rattle.ie_compare.proofs.Norms.{Norm, norms_from, fronts}
 
 -- the length octets, from their number and the length
 abbrev coded : ℕ → ℕ → List ℕ

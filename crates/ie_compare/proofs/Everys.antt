@@ -1,5 +1,5 @@
 -- What holds of each element of a list, of its parts too.
-use Rattle.std.proofs.Common.{◌≡◌, ℕ, zero, suc, Bool, true, false, cond, List, [], ◌∷◌, ◌++◌, drop}
+use Rattle.std.proofs.Common.{ℕ, zero, suc, Bool, true, false, cond, List, [], ◌∷◌, ◌++◌, drop}
 use Rattle.std.specs.List.{flat_map, filter, AllByRecursion}
 
 module _ {A : Type 0} (P : A → Type 0) where

@@ -1,5 +1,5 @@
 -- The rows of a message beside its normal form, which the IEs that stay give alone.
-use Rattle.std.proofs.Common.{◌≡◌, ℕ, ◌+◌, ◌-◌, ◌≤◌, List, [], ◌∷◌, map, length, sym, refl, ap, ◌∙◌, subst, ap₂, add-zero, arith}
+use Rattle.std.proofs.Common.{◌≡◌, ℕ, ◌+◌, ◌-◌, List, [], ◌∷◌, map, length, sym, ap, ◌∙◌, subst, add-zero, arith}
 use Rattle.std.specs.List.{filter}
 use Rattle.ie_catalogue.specs.declared.entry.Entry.{Entry}
 use Rattle.ie_walk.specs.Reading.{Reading}
@@ -9,11 +9,11 @@ use Rattle.ie_report.specs.declared.row.Row.{Row}
 use Rattle.ie_report.specs.declared.row.RowKind.{RowKind}
 use Rattle.ie_report.specs.Judging.{Unplaced, unplaced, Step}
 use Rattle.ie_report.specs.Rows.{stays, position_of, half_of, row_of, rows_from}
-use Rattle.ie_report.specs.Reports.{Message, tokens, rows_of}
+use Rattle.ie_report.specs.Reports.{Message, rows_of}
 use Rattle.ie_compare.specs.Strikes.{whole, skipped_before}
-use Rattle.ie_compare.specs.Alikes.{Face, face, Agree}
-use Rattle.ie_compare.proofs.Pairs.{Pairs, none, more, pairs_map, pairs_same}
-use Rattle.ie_compare.proofs.Parts.{stays_ie, division, ies_of, tail_of, kept_of, each_ie, covered}
+use Rattle.ie_compare.specs.Alikes.{Face, face}
+use Rattle.ie_compare.proofs.Pairs.{Pairs, none, more, pairs_same}
+use Rattle.ie_compare.proofs.Parts.{division, ies_of, tail_of, kept_of, each_ie, covered}
 use Rattle.ie_compare.proofs.Places.{before, Sits, sits}
 
 -- a row's face, and its places once what is skipped is gone

@@ -1,5 +1,5 @@
 -- Two lists pair by pair.
-use Rattle.std.proofs.Common.{◌≡◌, List, [], ◌∷◌, ◌++◌, map, refl, ap, ◌∙◌, ap₂}
+use Rattle.std.proofs.Common.{◌≡◌, List, [], ◌∷◌, ◌++◌, map, refl, ap, ap₂}
 use Rattle.std.specs.List.{flat_map}
 use Rattle.ie_compare.specs.Alikes.{Pairwise}
 

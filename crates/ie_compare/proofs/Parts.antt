@@ -1,12 +1,11 @@
 -- A message by its only division: the IEs that stay, and what striking leaves of it.
-use Rattle.std.proofs.Common.{◌≡◌, ℕ, ◌+◌, ◌≤◌, Bool, true, false, cond, not, List, [], ◌∷◌, ◌++◌, length, take, drop, sym, refl, ap, ◌∙◌, ap₂, append_assoc}
+use Rattle.std.proofs.Common.{◌≡◌, ℕ, ◌+◌, ◌≤◌, Bool, true, false, cond, not, List, [], ◌∷◌, ◌++◌, length, drop, sym, refl, ap, ◌∙◌, ap₂}
 use mathlib.Core.List.{append_cancel_left}
 use Rattle.std.specs.List.{flat_map, filter, AllByRecursion}
 use Rattle.std.proofs.lemmas.List.{drop-drop, drop_at, length-take-le}
 use Rattle.ie_walk.specs.Reading.{Reading, kind}
-use Rattle.ie_walk.specs.Walks.{Found}
 use Rattle.ie_walk.specs.Runs.{walked, Run}
-use Rattle.ie_walk.specs.Grammar.{IsIe, IsDivision, Unfinished, end_to_end, token_at, laid}
+use Rattle.ie_walk.specs.Grammar.{IsIe, IsDivision, end_to_end, token_at, laid}
 use Rattle.ie_walk.proofs.Dividing.{one_division}
 use Rattle.ie_walk.proofs.Laying.{walk_divides, run_of}
 use Rattle.ie_report.specs.Rows.{skips, stays}

@@ -1,5 +1,5 @@
 -- The rows' faces and the imperative part tell the diagnoses and the severity.
-use Rattle.std.proofs.Common.{◌≡◌, ℕ, suc, Bool, true, false, cond, ◌&&◌, List, [], ◌∷◌, ◌++◌, map, length, Some, None, Option, sym, refl, ap, ◌∙◌, subst, ap₂}
+use Rattle.std.proofs.Common.{◌≡◌, ℕ, suc, List, [], ◌∷◌, ◌++◌, map, Some, None, Option, sym, refl, ap, ◌∙◌, ap₂}
 use Rattle.std.specs.List.{flat_map, AllByRecursion}
 use Rattle.std.specs.Option.{option_to_list, option_map}
 use Rattle.std.proofs.lemmas.List.{map-append}
@@ -7,12 +7,11 @@ use Rattle.ie_catalogue.specs.declared.entry.Entry.{Entry}
 use Rattle.ie_walk.specs.declared.faults.Placed.{Placed}
 use Rattle.ie_walk.specs.Reading.{Reading}
 use Rattle.ie_tally.specs.declared.positions.Positions.{Positions}
-use Rattle.ie_tally.specs.declared.severity.Severity.{Severity}
 use Rattle.ie_tally.specs.Tallies.{severity_total, positions_total}
 use Rattle.ie_report.specs.declared.row.Row.{Row}
 use Rattle.ie_report.specs.declared.diagnosis.Diagnosis.{Diagnosis}
 use Rattle.ie_report.specs.declared.diagnosis.DiagnosisKind.{DiagnosisKind}
-use Rattle.ie_report.specs.Rows.{taken_as, taken_by}
+use Rattle.ie_report.specs.Rows.{taken_as}
 use Rattle.ie_report.specs.Diagnosing.{of_row, raises, diagnosis_of, at_position, wrong_with, afterwards, severity_of}
 use Rattle.ie_report.specs.Reports.{taken_in, diagnoses_in}
 use Rattle.ie_compare.specs.Alikes.{Face, face, diagnosed}

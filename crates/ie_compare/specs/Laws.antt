@@ -6,7 +6,7 @@
 --   declined_as     the number of the refusal, or 0 where the report is made
 --   Law             the law for one catalogue, skip rule and way of judging
 --   Compares        the law for every list of entries, frame, demand and order function
-use Rattle.std.specs.Prelude.{◌≡◌, ℕ, ◌+◌, ◌<◌, ◌≤◌, ◌↔◌, List, length, Ok, Err, Result}
+use Rattle.std.specs.Prelude.{◌≡◌, ℕ, ◌+◌, ◌<◌, ◌≤◌, ◌↔◌, length, Ok, Err, Result}
 use Rattle.std.specs.List.{AllByRecursion}
 use Rattle.ie_catalogue.specs.Refusals.{Refusal}
 use Rattle.ie_walk.specs.Reading.{Reading}

@@ -6,7 +6,7 @@
 --   wrong_with     what is wrong with the entry at a position once all IEs are judged
 --   afterwards     the diagnoses by position
 --   severity_of    how severe a diagnosis is
-use Rattle.std.specs.Prelude.{ℕ, suc, Bool, true, false, cond, not, ◌&&◌, List, [], ◌∷◌, ◌++◌, map, length, Some, None, Option, ◌==◌, bit_and, nat_lt, slice_index}
+use Rattle.std.specs.Prelude.{ℕ, suc, Bool, true, false, cond, not, ◌&&◌, List, [], ◌∷◌, ◌++◌, length, Some, None, Option, ◌==◌, bit_and, nat_lt, slice_index}
 use Rattle.std.specs.Option.{option_to_list, option_map}
 use Rattle.ie_catalogue.specs.declared.entry.Entry.{Entry}
 use Rattle.ie_catalogue.specs.declared.row.Format.{Format}

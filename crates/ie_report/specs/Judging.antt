@@ -8,7 +8,7 @@
 --   kind_of              what a known IE meets, in this order: its limit, the order rule, the size of its value
 --   after                what is met then: a taken IE counts, and an ill-sized one was admitted all the same
 --   judge                the product's step: a known IE by its entry, a demanding one as unknown
-use Rattle.std.specs.Prelude.{ℕ, ◌+◌, Bool, cond, not, List, length, replicate, Option, nat_le, slice_index, slice_set}
+use Rattle.std.specs.Prelude.{ℕ, ◌+◌, cond, not, List, length, replicate, Option, nat_le, slice_index, slice_set}
 use Rattle.std.specs.List.{slice_get}
 use Rattle.std.specs.Option.{unwrap_or, option_map}
 use Rattle.ie_catalogue.specs.declared.entry.Entry.{Entry}

@@ -7,7 +7,7 @@
 --   summary_of       how many rows and diagnoses it has, and its tallies
 --   outcome          what a report answers, lent so many places for rows and for diagnoses: the first cause that holds
 --                    declines it
-use Rattle.std.specs.Prelude.{ℕ, Bool, true, false, List, [], ◌∷◌, ◌++◌, map, length, take, Some, None, Ok, Err, Option, Result, nat_lt}
+use Rattle.std.specs.Prelude.{ℕ, Bool, true, false, List, ◌++◌, map, length, take, Some, None, Ok, Err, Option, Result, nat_lt}
 use Rattle.std.specs.List.{flat_map, filter}
 use Rattle.std.specs.Option.{option_to_list}
 use Rattle.ie_catalogue.specs.Refusals.{Refusal, refused}

@@ -91,15 +91,15 @@ impl OrderRule for Closed {
 // All in, or none. How often a position is offered is no part of a rule's meaning, and is counted here.
 #[derive(Drop)]
 struct Counting {
-    open: bool,
+    admitting: bool,
     offers: u8,
     admitted: Positions,
 }
 
 impl Counting {
-    fn new(open: bool) -> Counting {
+    fn new(admitting: bool) -> Counting {
         Counting {
-            open,
+            admitting,
             offers: 0,
             admitted: Positions::none(),
         }
@@ -109,7 +109,7 @@ impl Counting {
 impl OrderRule for Counting {
     ghost admitted = { λ rule. rule.admitted.bits };
 
-    ghost admits = { λ rule _ _. rule.open };
+    ghost admits = { λ rule _ _. rule.admitting };
 
     fn reset(&mut self) {
         self.admitted = Positions::none();
@@ -117,7 +117,7 @@ impl OrderRule for Counting {
 
     fn offer(&mut self, position: usize) -> bool {
         self.offers = self.offers.saturating_add(1);
-        if position >= 64 || !self.open {
+        if position >= 64 || !self.admitting {
             return false;
         }
         self.admitted = self.admitted.with(position);
@@ -206,8 +206,8 @@ fn judged_in_turn(rt: HostRuntime) -> Result<(), Fail> {
     let mut times = TimesTaken::none();
     let first = judge(&catalogue, &mut order, &mut times, OPTIONAL).ok_or("a row")?;
     assert_eq!(rt; first.kind, RowKind::Taken);
-    assert_eq!(rt; first.value(&[0, 0x27, 1, 0x22, 0x05]), &[0x22]);
-    assert_eq!(rt; first.value(&[0, 0x27]), &[]);
+    assert_eq!(rt; first.value(&[0, 0x27, 1, 0x22, 0x05]), [0x22].as_slice());
+    assert!(rt; first.value(&[0, 0x27]).is_empty());
     let second = judge(&catalogue, &mut order, &mut times, MANDATORY).ok_or("a row")?;
     assert_eq!(rt; second.kind.number(), 3);
     let diagnosis = diagnose(&catalogue, &rule, &second).ok_or("0F and less are demanding")?;

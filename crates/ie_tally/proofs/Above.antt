@@ -1,9 +1,8 @@
 -- A set has a greater position exactly if more than one bit is left of it from the position on.
-use Rattle.std.proofs.Common.{◌≡◌, ℕ, suc, ◌+◌, ◌-◌, ◌*◌, ◌/◌, ◌%◌, ◌^◌, ◌<◌, ◌≤◌, Bool, true, false, ◌&&◌, eqb, ltb, Decides, sym, ap, ◌∙◌, ⊎_elim, pow-suc, arith, pow_mono}
+use Rattle.std.proofs.Common.{◌≡◌, ℕ, suc, ◌+◌, ◌-◌, ◌/◌, ◌%◌, ◌^◌, ◌<◌, ◌≤◌, true, false, ◌&&◌, eqb, ltb, sym, ap, ◌∙◌, ⊎_elim, pow-suc, arith, pow_mono}
 use Rattle.std.proofs.lemmas.Nat.{shr-shr, le-div, div_below, leading_top, pow_pos, pow_below}
-use Rattle.std.proofs.lemmas.Bool.{ltb-true, lt-ltb, le-ltb, cases_lt, and_right, and_from, and_parts, both_ways, cases_Bool}
+use Rattle.std.proofs.lemmas.Bool.{ltb-true, lt-ltb, cases_lt, and_right, and_from, and_parts, both_ways, cases_Bool}
 use Rattle.std.proofs.lemmas.Bool.Decides.{same_from_decides}
-use Rattle.ie_catalogue.specs.Below.{some_below}
 use Rattle.ie_catalogue.proofs.Below.{some_decides}
 use Rattle.ie_tally.specs.Sets.{has, has_above}
 

@@ -90,7 +90,7 @@ fn under_a_pile_of_layers(rt: HostRuntime) -> Result<(), Fail> {
         return Err(Fail::new("25 is known"));
     };
     assert_eq!(rt; position, 1);
-    assert_eq!(rt; ie.value, &[0x02]);
+    assert_eq!(rt; ie.value, [0x02].as_slice());
     let totals = divide(&view, &rule, &message, 1)?.totals;
     assert_eq!(rt; totals.known.octets, 2);
     assert_eq!(rt; totals.demanding.octets, 3);

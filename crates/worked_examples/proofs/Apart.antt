@@ -1,9 +1,9 @@
 -- Why the pairs are not alike: some number of theirs differs.
-use Rattle.std.proofs.Common.{◌≡◌, ℕ, List, [], ◌∷◌, map, length, get_or, refl, ap, arith}
+use Rattle.std.proofs.Common.{◌≡◌, ℕ, List, [], ◌∷◌, length, get_or, refl, ap, arith}
 use Rattle.ie_tally.specs.Severities.{severity_number}
 use Rattle.ie_report.specs.declared.diagnosis.Diagnosis.{Diagnosis}
 use Rattle.ie_report.specs.Numbers.{row_number, diagnosis_number}
-use Rattle.ie_compare.specs.Alikes.{Face, Alike}
+use Rattle.ie_compare.specs.Alikes.{Face}
 use Rattle.ie_report.specs.Reports.{report}
 use Rattle.ie_compare.specs.Strikes.{strike, skipped_before}
 use Rattle.worked_examples.specs.Alikes.{ToldApart, PlacesApart, SameSaid}

@@ -5,7 +5,7 @@
 --   mixed      a catalogue of all presences and tests
 --   Stand      every example comes out as it should
 --   FirstCause   a message of 65,536 octets is too long, wherever its imperative part ends; one of 65,535 is not
-use Rattle.std.specs.Prelude.{◌≡◌, ℕ, zero, suc, Bool, true, false, cond, not, ◌||◌, List, [], ◌∷◌, ◌++◌, map, replicate, Ok, Err, Result, ◌==◌}
+use Rattle.std.specs.Prelude.{◌≡◌, ℕ, zero, suc, true, false, cond, not, ◌||◌, List, [], ◌∷◌, ◌++◌, map, replicate, Ok, Err, Result, ◌==◌}
 use Rattle.ie_catalogue.specs.declared.row.EntryRow.{EntryRow}
 use Rattle.ie_catalogue.specs.declared.row.Format.{Format}
 use Rattle.ie_catalogue.specs.declared.row.Format.TheVariants.{TvHalf, T, Tlv, TlvE}

@@ -1,4 +1,4 @@
-use Rattle.std.proofs.Common.{true, false, sym}
+use Rattle.std.proofs.Common.{sym}
 use Rattle.std.proofs.lemmas.Bool.{false≢true}
 use Rattle.ie_catalogue.proofs.Coverers.{clash_at, clash_more, clash_none, sole_push}
 use Rattle.ie_catalogue.proofs.checked.clash.Goals as goal

@@ -1,4 +1,4 @@
-use Rattle.std.proofs.Common.{◌≡◌, ℕ, Bool, ◌&&◌, ltb, get_or, sym, arith, rules}
+use Rattle.std.proofs.Common.{◌&&◌, ltb, get_or, sym, arith, rules}
 use Rattle.ie_catalogue.proofs.Below.{some_none, some_more, some_here}
 use Rattle.ie_tally.specs.Sets.{has}
 use Rattle.ie_report.proofs.tests.outranked.Goals as goal
