@@ -16,8 +16,8 @@ NAME_END = r"(?![\w\-'])"
 DECLARED = re.compile(r"^\s*(?:(?:abbrev|unfoldable|pub|data|record|ruleset)\s+)*([^\s(){}\[\]:;.,]+)\s*:(?!=)\s*(.*)$", re.M)
 GENERATED = re.compile(r"^goal\.")
 FACT = re.compile(r"^[A-Z]")
-# a struct has a field `value_length`, which a clause would mean instead
-TAKEN = {"value-length": "length_of_value"}
+# a struct has a field `value_length`, which a clause would mean instead; the other is in camel case
+TAKEN = {"value-length": "length_of_value", "fiveGs": "five_gs"}
 # names that a proof or a pattern binds
 LOCALS = ["at-hand", "joined-up", "whole-strike", "strike-rest"]
 
@@ -44,7 +44,7 @@ def renamings():
     for path in antt_files():
         for declared in DECLARED.finditer(text_of(path)):
             name, kind = declared.group(1), declared.group(2)
-            if "-" in name.strip("-") and not GENERATED.match(kind) and not name.startswith("--"):
+            if ("-" in name.strip("-") or name in TAKEN) and not GENERATED.match(kind) and not name.startswith("--"):
                 found[name] = respelled(name)
     return found
 
@@ -94,7 +94,7 @@ def main():
     cited = lambda m: found.get(m.group(0), respelled(m.group(0)) if respelled(m.group(0)) in declared else m.group(0))
     for path in sorted(glob.glob("README.md") + glob.glob("docs/*.md")):
         old = text_of(path)
-        new = re.sub(r"`[^`\n]*`", lambda m: re.sub(r"[\w']+(?:-[\w']+)+", cited, m.group(0)), old)
+        new = re.sub(r"`[^`\n]*`", lambda m: re.sub(r"[\w']+(?:-[\w']+)*", cited, m.group(0)), old)
         if new != old:
             with open(path, "w", encoding="utf-8") as file:
                 file.write(new)

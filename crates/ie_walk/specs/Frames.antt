@@ -1,5 +1,5 @@
 -- The skip rules, in the standard's words: bit 8 is an octet's highest bit.
---   eps, fiveGs, plain   the frame of an unknown IE, by its IEI octet (TS 24.007, 11.2.4)
+--   eps, five_gs, plain   the frame of an unknown IE, by its IEI octet (TS 24.007, 11.2.4)
 --   comprehended         'comprehension required', by frame and octet (TS 24.007, 11.2.5)
 use Rattle.std.specs.Prelude.{ℕ, ◌/◌, ◌%◌, Bool, false, cond, ◌==◌}
 use Rattle.ie_walk.specs.declared.skip.Frame.{Frame}
@@ -17,8 +17,8 @@ bits_7_to_5_set octet = octet / 16 % 8 == 7
 abbrev pub eps : ℕ → Frame
 eps octet = cond (bit_8_set octet) OneOctet (cond (bits_7_to_4_set octet) TlvE Tlv)
 
-abbrev pub fiveGs : ℕ → Frame
-fiveGs octet = cond (bit_8_set octet) OneOctet (cond (bits_7_to_5_set octet) TlvE Tlv)
+abbrev pub five_gs : ℕ → Frame
+five_gs octet = cond (bit_8_set octet) OneOctet (cond (bits_7_to_5_set octet) TlvE Tlv)
 
 abbrev pub plain : ℕ → Frame
 plain octet = cond (bit_8_set octet) OneOctet Tlv

@@ -1,6 +1,6 @@
 // The skip rule of the 5GS protocols 5GMM and 5GSM.
 ghost use Rattle.std.specs.Prelude.{false};
-ghost use Rattle.ie_walk.specs.Frames.{fiveGs};
+ghost use Rattle.ie_walk.specs.Frames.{five_gs};
 
 use crate::skip::{Frame, SkipRule};
 
@@ -8,7 +8,7 @@ use crate::skip::{Frame, SkipRule};
 pub struct FiveGs;
 
 impl SkipRule for FiveGs {
-    ghost framed = { λ _. fiveGs };
+    ghost framed = { λ _. five_gs };
 
     ghost demands = { λ _ _. false };
 

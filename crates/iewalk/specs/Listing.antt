@@ -5,7 +5,7 @@
 use Rattle.std.specs.Prelude.{◌≡◌, ℕ, ◌+◌, ◌<◌, ◌≤◌, List, [], ◌∷◌, ◌++◌, map, length, drop}
 use Rattle.ie_catalogue.specs.Entries.{meant}
 use Rattle.ie_walk.specs.Cuts.{needed}
-use Rattle.ie_walk.specs.Frames.{fiveGs, comprehended}
+use Rattle.ie_walk.specs.Frames.{five_gs, comprehended}
 use Rattle.ie_walk.specs.Grammar.{OnlyDivision, laid, end_to_end}
 use Rattle.ie_walk.specs.Reading.{Reading, reading, shape}
 use Rattle.ul_nas_transport.specs.Imperative.{imperative_end}
@@ -35,7 +35,7 @@ pub record Appends (R : Reading) (m : List ℕ) (end : ℕ) (before after : List
 
 -- the shipped catalogue, and comprehension over 5GS
 abbrev pub shipped : Reading
-shipped = reading (map meant table) fiveGs (λ octet. comprehended (fiveGs octet) octet)
+shipped = reading (map meant table) five_gs (λ octet. comprehended (five_gs octet) octet)
 
 pub record Listing (m output : List ℕ) : Type 0 where
   pub too_long : 4096 < length m → output ≡ text (Refused 1 ∷ [])

@@ -16,7 +16,7 @@ use Rattle.ie_catalogue.specs.declared.row.Test.{Test}
 use Rattle.ie_catalogue.specs.declared.row.Test.TheVariants.{Never, IfPresent, IfAbsent, IfOctet}
 use Rattle.ie_catalogue.specs.Entries.{meant}
 use Rattle.ie_catalogue.specs.Refusals.{Refusal}
-use Rattle.ie_walk.specs.Frames.{fiveGs, comprehended}
+use Rattle.ie_walk.specs.Frames.{five_gs, comprehended}
 use Rattle.ie_walk.specs.Reading.{Reading, reading}
 use Rattle.ie_tally.specs.Sets.{has}
 use Rattle.ie_report.specs.Numbers.{row_values, diagnosis_values, summary_values}
@@ -46,7 +46,7 @@ pub record Answer : Type 0 where
 
 -- comprehension over 5GS
 abbrev pub reads : List EntryRow → Reading
-reads rows = reading (map meant rows) fiveGs (λ octet. false || comprehended (fiveGs octet) octet)
+reads rows = reading (map meant rows) five_gs (λ octet. false || comprehended (five_gs octet) octet)
 
 abbrev pub tell : Result Report Refusal → Told
 tell (Ok a) = reported (map row_values a.rows) (map diagnosis_values a.diagnoses) (summary_values (summary_of a))
