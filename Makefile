@@ -5,10 +5,9 @@ MESSAGE ?= examples/unknown_tlv_e.bin
 .PHONY: run test
 
 run:
-	@mkdir -p target
 	@echo "proving iewalk and what it stands on .."
-	@rt check iewalk > target/run.log 2>&1 || { cat target/run.log; exit 1; }
-	@target/bin/iewalk < $(MESSAGE)
+	@log=$$(mktemp); cd crates/iewalk && rt run < stdin > $$log 2>&1 || { cat $$log; rm $$log; exit 1; }; rm $$log
+	@crates/iewalk/out/iewalk < $(MESSAGE)
 
 test:
 	bash .ci/run
