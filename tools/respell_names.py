@@ -16,8 +16,8 @@ NAME_END = r"(?![\w\-'])"
 DECLARED = re.compile(r"^\s*(?:(?:abbrev|unfoldable|pub|data|record|ruleset)\s+)*([^\s(){}\[\]:;.,]+)\s*:(?!=)\s*(.*)$", re.M)
 GENERATED = re.compile(r"^goal\.")
 FACT = re.compile(r"^[A-Z]")
-# a struct has a field `value_length`, which a clause would mean instead; the other is in camel case
-TAKEN = {"value-length": "length_of_value", "fiveGs": "five_gs"}
+# a row has a field `value_length`, and the library has a `count_by`; `fiveGs` is in camel case
+TAKEN = {"value-length": "length_of_value", "count_by": "count_kind", "fiveGs": "five_gs"}
 # names that a proof or a pattern binds
 LOCALS = ["at-hand", "joined-up", "whole-strike", "strike-rest"]
 

@@ -22,7 +22,7 @@ use Rattle.ie_catalogue.specs.Refusals.{Refusal, refused}
 abbrev pub absent : Entry
 absent = record { row = None; ok = refl }
 
--- the entry of a row, given whether it is well_formed
+-- the entry of a row, given whether it is well-formed
 abbrev pub meant_at : (r : EntryRow) (b : Bool) → well_formed r ≡ b → Entry
 meant_at r true e = record { row = Some r; ok = e }
 meant_at r false e = absent

@@ -2,7 +2,7 @@
 ghost use Rattle.std.specs.Prelude.{◌≡◌, ℕ, ◌+◌, ◌≤◌, length};
 ghost use Rattle.std.specs.Option.{option_to_list};
 ghost use Rattle.ie_walk.specs.Walks.{part_in, found_in};
-ghost use Rattle.ie_report.specs.Judging.{entry_in, format_in, state, kind_of, after as after-by};
+ghost use Rattle.ie_report.specs.Judging.{entry_in, format_in, state, kind_of, after as after_by};
 ghost use Rattle.ie_report.specs.Rows.{half_by, row_by, judged_row, judged_state, skip_of};
 
 use crate::order::OrderRule;
@@ -25,7 +25,7 @@ fn judge_known<O: OrderRule>(
     length: usize,
 ) -> RowKind
     ensures value { result ≡ kind_of (O.OrderRule.admits order.old) (entry_in entry) (state times.old.times (O.OrderRule.admitted order.old)) position length }
-    ensures after { state times.new.times (O.OrderRule.admitted order.new) ≡ after-by result position (state times.old.times (O.OrderRule.admitted order.old)) }
+    ensures after { state times.new.times (O.OrderRule.admitted order.new) ≡ after_by result position (state times.old.times (O.OrderRule.admitted order.old)) }
     ensures same { (s p : ℕ) → O.OrderRule.admits order.new s p ≡ O.OrderRule.admits order.old s p }
 {
     let Some(known) = entry else {

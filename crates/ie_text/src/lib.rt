@@ -1,8 +1,7 @@
 // Octets as text, for the programs.
 #![tactic(auto)]
 
-ghost use Rattle.std.specs.Prelude.{◌≡◌, ◌<◌, [], ◌∷◌, Some};
-ghost use Rattle.std.proofs.Math.Utf8.{encode};
+ghost use Rattle.std.specs.Prelude.{◌≡◌, ◌<◌, [], ◌∷◌, Some, encode_utf8};
 ghost use Rattle.ie_text.specs.Hex.{hex_digit, hex_octet};
 
 use std::fmt;
@@ -24,7 +23,7 @@ impl fmt::Display for HexOctet {
 fn hex_char(d: u8) -> char
     requires { d < 16 }
     ensures value { result ≡ hex_digit d }
-    ensures byte { encode result ≡ hex_digit d ∷ [] }
+    ensures byte { encode_utf8 result ≡ hex_digit d ∷ [] }
 {
     if d < 10 {
         (b'0' + d) as char

@@ -11,7 +11,7 @@ use Rattle.ie_walk.specs.Runs.{Run, run, after_token, walked}
 use Rattle.ie_catalogue.specs.Refusals.{Refusal}
 use Rattle.ie_walk.specs.declared.divide.Totals.{Totals}
 use Rattle.ie_walk.specs.declared.divide.Division.{Division}
-use Rattle.ie_walk.specs.Totals.{count, count_by, counts, no_totals, counted, counted_in, ies_of, octets_of, Divided}
+use Rattle.ie_walk.specs.Totals.{count, count_kind, counts, no_totals, counted, counted_in, ies_of, octets_of, Divided}
 use Rattle.ie_walk.specs.Grammar.{IsIe, Unfinished, IsDivision, end_to_end, token_at, laid, tail_fault}
 use Rattle.ie_walk.proofs.Running.{run_more, run_short}
 use Rattle.ie_walk.proofs.Dividing.{follows_size, front_is_ie, wholes, run_divides, only}
@@ -74,7 +74,7 @@ counts_ies : (t : Totals) (fs : List Found) → ies_of (counts t fs) ≡ ies_of 
 counts_ies t [] = omega arith
 counts_ies t (f ∷ fs) = omega (arith, counts_ies (count t f) fs, one_ie f.kind)
   where
-    one_ie : (k : Kind) → ies_of (count_by k (length f.part.whole) t) ≡ ies_of t + 1
+    one_ie : (k : Kind) → ies_of (count_kind k (length f.part.whole) t) ≡ ies_of t + 1
     one_ie (known p) = omega arith
     one_ie skippable = omega arith
     one_ie demanding = omega arith
@@ -90,7 +90,7 @@ laid_octets R p t ([] ∷ ies) each = absurd each.0
 laid_octets R p t ((o ∷ v) ∷ ies) each =
     omega (arith, laid_octets R (p + length (o ∷ v)) (count t (token_at R p o v)) ies each.1, octets (kind R o), length-append (o ∷ v) (end_to_end ies))
   where
-    octets : (k : Kind) → octets_of (count_by k (length (o ∷ v)) t) ≡ octets_of t + length (o ∷ v)
+    octets : (k : Kind) → octets_of (count_kind k (length (o ∷ v)) t) ≡ octets_of t + length (o ∷ v)
     octets (known p) = omega arith
     octets skippable = omega arith
     octets demanding = omega arith

@@ -1,9 +1,9 @@
 -- How many octets an IE takes, and what of it is its value.
---   head          IEI and length octets
---   length_of_value  the octets of the value, as the length octets give them
---   needed        the octets that an IE at the front asks for, as far as they tell
---   cut_of        the IE and its value, or the octets needed and at hand
---   cut_meaning   a cut by the octets that it borrows
+--   head              IEI and length octets
+--   length_of_value   the octets of the value, as the length octets give them
+--   needed            the octets that an IE at the front asks for, as far as they tell
+--   cut_of            the IE and its value, or the octets needed and at hand
+--   cut_meaning       a cut by the octets that it borrows
 use Rattle.std.specs.Prelude.{ℕ, ◌+◌, ◌*◌, cond, List, length, take, drop, Ok, Err, Result, nat_lt, slice_index}
 use Rattle.ie_walk.specs.declared.cut.Shape.{Shape}
 use Rattle.ie_walk.specs.declared.cut.Shape.TheVariants.{Fixed, Tlv, TlvE}

@@ -22,13 +22,13 @@ use Rattle.ie_walk.specs.Grammar.{IsDivision, end_to_end}
 abbrev pub one_more : Count → ℕ → Count
 one_more c size = record { ies = c.ies + 1; octets = c.octets + size }
 
-abbrev pub count_by : Kind → ℕ → Totals → Totals
-count_by (known position) size t = record { known = one_more t.known size; skippable = t.skippable; demanding = t.demanding }
-count_by skippable size t = record { known = t.known; skippable = one_more t.skippable size; demanding = t.demanding }
-count_by demanding size t = record { known = t.known; skippable = t.skippable; demanding = one_more t.demanding size }
+abbrev pub count_kind : Kind → ℕ → Totals → Totals
+count_kind (known position) size t = record { known = one_more t.known size; skippable = t.skippable; demanding = t.demanding }
+count_kind skippable size t = record { known = t.known; skippable = one_more t.skippable size; demanding = t.demanding }
+count_kind demanding size t = record { known = t.known; skippable = t.skippable; demanding = one_more t.demanding size }
 
 abbrev pub count : Totals → Found → Totals
-count t f = count_by f.kind (length f.part.whole) t
+count t f = count_kind f.kind (length f.part.whole) t
 
 abbrev pub counts : Totals → List Found → Totals
 counts t [] = t
