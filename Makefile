@@ -1,5 +1,5 @@
 # make run [MESSAGE=file]   prove what iewalk needs, then show how the message divides
-# make test                 the whole gate, from nothing
+# make test                 the whole gate
 MESSAGE ?= examples/unknown_tlv_e.bin
 
 .PHONY: run test
