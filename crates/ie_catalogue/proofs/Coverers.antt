@@ -1,21 +1,17 @@
 -- How many entries cover an octet, as a list is gone through and grows.
-use Rattle.std.proofs.Common.{◌≡◌, ℕ, zero, suc, ◌+◌, ◌<◌, ◌≤◌, true, false, List, [], ◌∷◌, ◌++◌, length, get_or, drop, sym, refl, ap, ◌∙◌, subst, ⊎_elim, arith}
+use Rattle.std.proofs.Common.{◌≡◌, ℕ, ◌+◌, false, ◌||◌, List, [], ◌∷◌, ◌++◌, refl, ap, ◌∙◌, inl, inr, ⊎_elim, arith}
 use Rattle.std.proofs.lemmas.Bool.{cases_Bool, both_ways, false≢true, or_left, or_right, or_parts, or_cases}
-use Rattle.std.proofs.lemmas.List.{drop_more, at_drop_all}
+use Rattle.std.proofs.lemmas.Bool.Decides.{Decides-like, Decides-or, same_from_decides}
+use Rattle.std.specs.List.{list_any}
 use Rattle.ie_catalogue.specs.declared.entry.Entry.{Entry}
 use Rattle.ie_catalogue.specs.Entries.{covers, known, coverers, one_if, Sole}
 use Rattle.ie_catalogue.specs.Adding.{shares, clashes}
-use Rattle.ie_catalogue.proofs.Shared.{Clash, shares_decides, clashes_decides}
+use Rattle.ie_catalogue.proofs.Shared.{Shared, Clash, shares_decides, clashes_decides}
 use Rattle.ie_catalogue.proofs.Overlap.{covered_below}
 
 pub coverers_push : (es : List Entry) (e : Entry) (o : ℕ) → coverers (es ++ e ∷ []) o ≡ coverers es o + one_if (covers e o)
 coverers_push [] e o = omega arith
 coverers_push (x ∷ xs) e o = let h = coverers_push xs e o in omega arith
-
-known_at : (es : List Entry) (i o : ℕ) (x d : Entry) → i < length es → x ≡ get_or es i d → covers x o ≡ true → known es o ≡ true
-known_at [] i o x d h p q = absurd (omega arith)
-known_at (y ∷ ys) zero o x d h p q = or_left (covers y o) (known ys o) (subst (λ z. covers z o ≡ true) p q)
-known_at (y ∷ ys) (suc i) o x d h p q = or_right (covers y o) (known ys o) (known_at ys i o x d (omega arith) p q)
 
 pub unknown_none : (es : List Entry) (o : ℕ) → known es o ≡ false → coverers es o ≡ 0
 unknown_none [] o p = refl
@@ -25,33 +21,23 @@ unknown_none (y ∷ ys) o p =
     let b : coverers ys o ≡ 0 = unknown_none ys o q.1 in
     omega arith
 
--- one that shares an octet is found
-pub clash_at : (es : List Entry) (i : ℕ) (x e : Entry) → i < length es → x ≡ get_or es i x → true ≡ shares x e → true ≡ clashes es e
-clash_at es i x e h p t =
-    let s = (shares_decides x e).0 (sym t) in
-    sym ((clashes_decides es e).1 (s.0, s.1, s.3, known_at es i s.0 x x h p s.2))
+-- one more entry to clash with
+clashes_more : (x : Entry) (xs : List Entry) (e : Entry) → (shares x e || clashes xs e) ≡ clashes (x ∷ xs) e
+clashes_more x xs e =
+    same_from_decides (shares x e || clashes xs e) (clashes (x ∷ xs) e)
+    (Decides-like (shares x e || clashes xs e)
+    (⊎_elim
+    (λ (s : Shared x e). (s.0, s.1, s.3, or_left (covers x s.0) (known xs s.0) s.2))
+    (λ (s : Clash xs e). (s.0, s.1, s.2, or_right (covers x s.0) (known xs s.0) s.3)))
+    (λ (s : Clash (x ∷ xs) e).
+    ⊎_elim (λ t. inl (s.0, s.1, t, s.2)) (λ t. inr (s.0, s.1, s.2, t)) (or_cases (covers x s.0) (known xs s.0) s.3))
+    (Decides-or (shares x e) (clashes xs e) (shares_decides x e) (clashes_decides xs e)))
+    (clashes_decides (x ∷ xs) e)
 
--- no more is left to go through than was
-pub clash_more : (es : List Entry) (i : ℕ) (x e : Entry) → i < length es → x ≡ get_or es i x → false ≡ shares x e
-    → (Clash es e → Clash (drop i es) e) → Clash es e → Clash (drop (i + 1) es) e
-clash_more es i x e h p n inv s =
-    let (o, lt, cov, some) = inv s in
-    let q : drop i es ≡ x ∷ drop (i + 1) es = drop_more es i x h ∙ ap (λ y. y ∷ drop (i + 1) es) (sym p) in
-    let k : known (x ∷ drop (i + 1) es) o ≡ true = subst (λ ys. known ys o ≡ true) q some in
-    ⊎_elim
-    (λ t. absurd (both_ways (shares x e) (sym n) ((shares_decides x e).1 (o, lt, t, cov))))
-    (λ t. (o, lt, cov, t))
-    (or_cases (covers x o) (known (drop (i + 1) es) o) k)
-
-pub clash_none : (es : List Entry) (i : ℕ) (e : Entry) → length es ≤ i → (Clash es e → Clash (drop i es) e) → false ≡ clashes es e
-clash_none es i e h inv =
-    ⊎_elim
-    (λ t.
-    let s = inv ((clashes_decides es e).0 t) in
-    let z : false ≡ true = sym (at_drop_all (λ xs. known xs s.0) es i h) ∙ s.3 in
-    absurd (false≢true z))
-    sym
-    (cases_Bool (clashes es e))
+-- an entry clashes with a list where it shares an octet with one of it
+pub any_clashes : (es : List Entry) (e : Entry) → list_any (λ x. shares x e) es ≡ clashes es e
+any_clashes [] e = same_from_decides false (clashes [] e) ((λ t. absurd (false≢true t)), (λ (s : Clash [] e). s.3)) (clashes_decides [] e)
+any_clashes (x ∷ xs) e = ap (λ b. shares x e || b) (any_clashes xs e) ∙ clashes_more x xs e
 
 pub sole_push : (es : List Entry) (e : Entry) → Sole es → clashes es e ≡ false → Sole (es ++ e ∷ [])
 sole_push es e s n o =

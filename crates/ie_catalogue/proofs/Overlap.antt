@@ -1,13 +1,13 @@
 -- The octets of an entry are a span, and two entries share an octet where their spans meet.
-use Rattle.std.proofs.Common.{◌≡◌, ℕ, ◌+◌, ◌/◌, ◌<◌, ◌≤◌, max, true, ◌&&◌, eqb, ltb, leb, Some, None, Decides, Option, arith}
+use Rattle.std.proofs.Common.{◌≡◌, ℕ, ◌/◌, ◌<◌, ◌≤◌, max, Bool, true, false, ◌&&◌, ltb, leb, Some, None, Decides, Option, arith}
 use Rattle.std.proofs.lemmas.Bool.{eqb-true, eq-eqb, and_parts, and_from, leb-true, ltb-true, lt-ltb}
 use Rattle.ie_catalogue.specs.declared.row.EntryRow.{EntryRow}
 use Rattle.ie_catalogue.specs.declared.row.Format.{Format}
 use Rattle.ie_catalogue.specs.declared.row.Format.TheVariants.{TvHalf, T, Tv, Tlv, TlvE}
 use Rattle.ie_catalogue.specs.declared.entry.Entry.{Entry}
 use Rattle.ie_catalogue.specs.Bounds.{framed, keeps}
-use Rattle.ie_catalogue.specs.Entries.{covers, covers_by, covers_row}
-use Rattle.ie_catalogue.specs.Spans.{span, span_by, span_row}
+use Rattle.ie_catalogue.specs.Entries.{has_half, covers, covers_if, covers_row}
+use Rattle.ie_catalogue.specs.Spans.{span, span_if, span_by, span_row}
 use Rattle.ie_catalogue.specs.Adding.{shares}
 use Rattle.ie_catalogue.proofs.Shared.{Shared, shares_decides}
 use Rattle.std.proofs.lemmas.Bool.Decides.{same_from_decides}
@@ -15,33 +15,21 @@ use Rattle.std.proofs.lemmas.Bool.Decides.{same_from_decides}
 abbrev In : ℕ × ℕ → ℕ → Type 0
 In s o = (s.0 ≤ o) × (o < s.1)
 
-one_in : (iei o : ℕ) → eqb o iei ≡ true → (iei ≤ o) × (o < iei + 1)
-one_in iei o p = let q : o ≡ iei = eqb-true o iei p in (omega arith, omega arith)
+in_span_if : (half : Bool) (iei o : ℕ) → covers_if half iei o ≡ true → In (span_if half iei) o
+in_span_if true iei o p = let q : o / 16 ≡ iei = eqb-true (o / 16) iei p in (omega arith, omega arith)
+in_span_if false iei o p = let q : o ≡ iei = eqb-true o iei p in (omega arith, omega arith)
 
-in_one : (iei o : ℕ) → iei ≤ o → o < iei + 1 → eqb o iei ≡ true
-in_one iei o l h = eq-eqb o iei (omega arith)
-
-in_span_by : (f : Format) (iei o : ℕ) → covers_by f iei o ≡ true → In (span_by f iei) o
-in_span_by TvHalf iei o p = let q : o / 16 ≡ iei = eqb-true (o / 16) iei p in (omega arith, omega arith)
-in_span_by T iei o p = one_in iei o p
-in_span_by Tv iei o p = one_in iei o p
-in_span_by Tlv iei o p = one_in iei o p
-in_span_by TlvE iei o p = one_in iei o p
-
-span_in_by : (f : Format) (iei o : ℕ) → In (span_by f iei) o → covers_by f iei o ≡ true
-span_in_by TvHalf iei o (l, h) = eq-eqb (o / 16) iei (omega arith)
-span_in_by T iei o (l, h) = in_one iei o l h
-span_in_by Tv iei o (l, h) = in_one iei o l h
-span_in_by Tlv iei o (l, h) = in_one iei o l h
-span_in_by TlvE iei o (l, h) = in_one iei o l h
+span_in_if : (half : Bool) (iei o : ℕ) → In (span_if half iei) o → covers_if half iei o ≡ true
+span_in_if true iei o (l, h) = eq-eqb (o / 16) iei (omega arith)
+span_in_if false iei o (l, h) = eq-eqb o iei (omega arith)
 
 in_span_row : (w : Option EntryRow) (o : ℕ) → covers_row w o ≡ true → In (span_row w) o
 in_span_row None o p = let z : ◌≡◌ {A = ℕ} 0 1 = cc in absurd (omega arith)
-in_span_row (Some r) o p = in_span_by r.format r.iei o p
+in_span_row (Some r) o p = in_span_if (has_half r.format) r.iei o p
 
 span_in_row : (w : Option EntryRow) (o : ℕ) → In (span_row w) o → covers_row w o ≡ true
 span_in_row None o (l, h) = absurd (omega arith)
-span_in_row (Some r) o i = span_in_by r.format r.iei o i
+span_in_row (Some r) o i = span_in_if (has_half r.format) r.iei o i
 
 framed_end : (f : Format) (iei l g : ℕ) → framed f iei l g ≡ true → (span_by f iei).1 ≤ 256
 framed_end TvHalf iei l g p = let q = leb-true iei 15 (and_parts (leb iei 15) _ p).0 in omega arith
@@ -54,16 +42,13 @@ end_row : (w : Option EntryRow) → keeps w ≡ true → (span_row w).1 ≤ 256
 end_row None p = omega arith
 end_row (Some r) p = framed_end r.format r.iei r.least r.greatest (and_parts _ _ p).0
 
-some_by : (f : Format) (iei : ℕ) → (span_by f iei).0 < (span_by f iei).1
-some_by TvHalf iei = omega arith
-some_by T iei = omega arith
-some_by Tv iei = omega arith
-some_by Tlv iei = omega arith
-some_by TlvE iei = omega arith
+some_if : (half : Bool) (iei : ℕ) → (span_if half iei).0 < (span_if half iei).1
+some_if true iei = omega arith
+some_if false iei = omega arith
 
 some_row : (w : Option EntryRow) → 0 < (span_row w).1 → (span_row w).0 < (span_row w).1
 some_row None p = p
-some_row (Some r) p = some_by r.format r.iei
+some_row (Some r) p = some_if (has_half r.format) r.iei
 
 pub covered_below : (e : Entry) (o : ℕ) → covers e o ≡ true → o < 256
 covered_below e o p =

@@ -7,7 +7,8 @@
 --   limit_of        how often the entry may be taken; the absent entry never is
 --   known           some entry covers the octet
 --   coverers, Sole  how many entries cover an octet; no octet is covered by two
-use Rattle.std.specs.Prelude.{◌≡◌, ℕ, ◌+◌, ◌/◌, ◌≤◌, Bool, true, false, cond, ◌||◌, List, [], ◌∷◌, Some, None, Ok, Err, Option, Result, ◌==◌, refl}
+use Rattle.std.specs.Prelude.{◌≡◌, ℕ, ◌+◌, ◌/◌, ◌≤◌, Bool, true, false, cond, List, [], ◌∷◌, Some, None, Ok, Err, Option, Result, ◌==◌, refl}
+use Rattle.std.specs.List.{list_any}
 use Rattle.ie_catalogue.specs.declared.row.EntryRow.{EntryRow}
 use Rattle.ie_catalogue.specs.declared.row.Format.{Format}
 use Rattle.ie_catalogue.specs.declared.row.Format.TheVariants.{TvHalf, T, Tv, Tlv, TlvE}
@@ -33,12 +34,19 @@ meant r = meant_at r (well_formed r) refl
 abbrev pub making : EntryRow → Result Entry Refusal
 making r = cond (well_formed r) (Ok (meant r)) (Err (refused 7))
 
+-- format 1 has its IEI in the upper half octet
+abbrev pub has_half : Format → Bool
+has_half TvHalf = true
+has_half T = false
+has_half Tv = false
+has_half Tlv = false
+has_half TlvE = false
+
+abbrev pub covers_if : Bool → ℕ → ℕ → Bool
+covers_if half iei octet = cond half (octet / 16 == iei) (octet == iei)
+
 abbrev pub covers_by : Format → ℕ → ℕ → Bool
-covers_by TvHalf iei octet = octet / 16 == iei
-covers_by T iei octet = octet == iei
-covers_by Tv iei octet = octet == iei
-covers_by Tlv iei octet = octet == iei
-covers_by TlvE iei octet = octet == iei
+covers_by f iei octet = covers_if (has_half f) iei octet
 
 abbrev pub covers_row : Option EntryRow → ℕ → Bool
 covers_row None octet = false
@@ -73,8 +81,7 @@ abbrev pub limit_of : Entry → ℕ
 limit_of e = limit_row e.row
 
 abbrev pub known : List Entry → ℕ → Bool
-known [] octet = false
-known (e ∷ es) octet = covers e octet || known es octet
+known es octet = list_any (λ e. covers e octet) es
 
 abbrev pub one_if : Bool → ℕ
 one_if true = 1

@@ -1,6 +1,5 @@
 // A catalogue that holds its entries, in which no octet is covered by two.
 ghost use Rattle.std.specs.Prelude.{◌≡◌, ◌≤◌, false, [], ◌∷◌, ◌++◌, is_ok, IfOk, vec_len, vec_capacity};
-ghost use Rattle.std.specs.List.{slice_get};
 ghost use Rattle.ie_catalogue.specs.Adding.{shares, clashes, adding, added_to};
 ghost use Rattle.ie_catalogue.specs.Entries.{Sole};
 ghost use Rattle.ie_catalogue.specs.Few.{few_held};
@@ -32,22 +31,7 @@ fn clash(held: &[Entry], added: &Entry) -> bool
     ensures value { result ≡ clashes held.now added.now }
     ensures sole { result ≡ false → Sole held.now → Sole (held.now ++ added.now ∷ []) }
 {
-    for one in held {
-        if overlap(one, added) {
-            return true;
-        }
-    }
-    false
-}
-
-fn entry_in(held: &[Entry], position: usize) -> Option<Entry>
-    ensures { result ≡ slice_get held.now position }
-{
-    if position < held.len() {
-        Some(held[position])
-    } else {
-        None
-    }
+    held.iter().any(|one| overlap(one, added))
 }
 
 impl CheckedCatalogue {
@@ -67,7 +51,7 @@ impl CheckedCatalogue {
         if self.entries.len() >= 64 {
             return Err(AddRefusal::Full);
         }
-        if clash(self.entries.as_slice(), &added) {
+        if clash(&self.entries, &added) {
             return Err(AddRefusal::Covered);
         }
         self.entries.push_reserved(added);
@@ -85,6 +69,6 @@ impl Catalogue for CheckedCatalogue {
     }
 
     fn entry(&self, position: usize) -> Option<Entry> {
-        entry_in(self.entries.as_slice(), position)
+        self.entries.get(position).copied()
     }
 }

@@ -1,12 +1,9 @@
-// A direction view: a layer over any catalogue that hides the entries of the other direction only; positions never move.
-ghost use Rattle.std.specs.Prelude.{◌≡◌, map};
-ghost use Rattle.ie_catalogue.specs.Few.{few_mapped};
-ghost use Rattle.ie_catalogue.specs.Views.{across, hiding};
+// A direction view hides the entries of the other direction only.
+ghost use Rattle.ie_catalogue.specs.Views.{across};
 
-use crate::catalogue::Catalogue;
 use crate::entry::Entry;
-use crate::layer::{count_below, entry_below};
 use crate::row::Direction;
+use crate::view::{Hides, View};
 
 // The direction that a view is for.
 #[derive(Clone, Copy, PartialEq, Eq, Debug)]
@@ -15,38 +12,17 @@ pub enum Link {
     Down,
 }
 
-#[derive(Drop)]
-pub struct DirectionView<C> {
-    pub below: C,
-    pub link: Link,
-}
+pub type DirectionView<C> = View<C, Link>;
 
-fn is_across(entry: &Entry, link: Link) -> bool
-    ensures { result ≡ across link entry.now }
-{
-    match entry.row() {
-        Some(row) => match (link, row.direction) {
-            (Link::Up, Direction::Down) => true,
-            (Link::Down, Direction::Up) => true,
-            _ => false,
-        },
-        None => false,
-    }
-}
+impl Hides for Link {
+    ghost hidden = { across };
 
-impl<C: Catalogue> Catalogue for DirectionView<C> {
-    ghost entries = { λ v. map (hiding (across v.link)) (C.Catalogue.entries v.below) };
-
-    ghost few = { λ v. few_mapped _ _ (C.Catalogue.few v.below) };
-
-    fn count(&self) -> usize {
-        count_below(&self.below)
-    }
-
-    fn entry(&self, position: usize) -> Option<Entry> {
-        match entry_below(&self.below, position) {
-            Some(entry) => Some(entry.hidden_if(is_across(&entry, self.link))),
-            None => None,
-        }
+    fn hides(&self, entry: &Entry) -> bool {
+        entry.row().is_some_and(|row| {
+            matches!(
+                (*self, row.direction),
+                (Link::Up, Direction::Down) | (Link::Down, Direction::Up)
+            )
+        })
     }
 }

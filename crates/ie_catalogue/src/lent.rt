@@ -1,27 +1,26 @@
 // A catalogue over lent rows, of which one that is ill-formed means the absent entry.
-ghost use Rattle.std.specs.Prelude.{◌≡◌, map, length, take};
-ghost use Rattle.std.specs.List.{slice_get};
-ghost use Rattle.std.specs.Option.{option_map};
+ghost use Rattle.std.specs.Prelude.{◌≡◌, ◌≤◌, length};
 ghost use Rattle.ie_catalogue.specs.Entries.{meant};
-ghost use Rattle.ie_catalogue.specs.Few.{few_mapped, few_taken};
-ghost use Rattle.ie_catalogue.specs.Lending.{lending, lent_entries};
-ghost use Rattle.ie_catalogue.specs.Refusals.{answered, lend_refusal};
+ghost use Rattle.ie_catalogue.specs.Few.{few_mapped};
 
 use crate::catalogue::Catalogue;
 use crate::entry::Entry;
 use crate::refusal::LendRefusal;
 use crate::row::EntryRow;
 
-// Only `lend` makes one, so there are at most 64 rows; a type that borrows holds no invariant, hence the 64 below.
 #[derive(Clone, Copy)]
 pub struct LentRows<'a> {
     rows: &'a [EntryRow],
+    ghost few: { length rows.now ≤ 64 },
 }
 
 impl<'a> LentRows<'a> {
+    ghost use Rattle.ie_catalogue.specs.Lending.{lending, rows_lent};
+    ghost use Rattle.ie_catalogue.specs.Refusals.{answered, lend_refusal};
+
     // Refusal 6 where there are more than 64 rows.
     pub fn lend(rows: &'a [EntryRow]) -> Result<LentRows<'a>, LendRefusal>
-        ensures { answered lend_refusal result ≡ lending (length rows.entry.now) (record { rows = rows.entry }) }
+        ensures { answered lend_refusal (rows_lent result) ≡ lending rows.entry }
     {
         if rows.len() <= 64 {
             Ok(LentRows { rows })
@@ -31,37 +30,18 @@ impl<'a> LentRows<'a> {
     }
 }
 
-// How many rows are in use.
-fn rows_used(rows: &[EntryRow]) -> usize
-    ensures { result ≡ length (map meant (take 64 rows.now)) }
-{
-    rows.len().min(64)
-}
-
-// The row at a position, or none from the count on.
-fn row_at(rows: &[EntryRow], position: usize) -> Option<EntryRow>
-    ensures { option_map meant result ≡ slice_get (map meant (take 64 rows.now)) position }
-{
-    if position < rows.len().min(64) {
-        Some(rows[position])
-    } else {
-        None
-    }
-}
-
 impl Catalogue for LentRows<'_> {
+    ghost use Rattle.ie_catalogue.specs.Lending.{lent_entries};
+
     ghost entries = { lent_entries };
 
-    ghost few = { λ l. few_mapped meant _ (few_taken l.rows.now) };
+    ghost few = { λ l. few_mapped meant _ l.few };
 
     fn count(&self) -> usize {
-        rows_used(self.rows)
+        self.rows.len()
     }
 
     fn entry(&self, position: usize) -> Option<Entry> {
-        match row_at(self.rows, position) {
-            Some(row) => Some(Entry::meant(&row)),
-            None => None,
-        }
+        Some(Entry::meant(self.rows.get(position)?))
     }
 }

@@ -6,7 +6,6 @@ pub mod catalogue;
 pub mod checked;
 pub mod direction;
 pub mod entry;
-mod layer;
 pub mod lent;
 pub mod refusal;
 pub mod release;
@@ -15,3 +14,4 @@ pub mod search;
 pub mod size;
 #[cfg(test)]
 mod tests;
+pub mod view;

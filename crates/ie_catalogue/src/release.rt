@@ -1,40 +1,19 @@
-// A release view: a layer over any catalogue that hides the entries of later releases; positions never move.
-ghost use Rattle.std.specs.Prelude.{◌≡◌, map};
-ghost use Rattle.ie_catalogue.specs.Few.{few_mapped};
-ghost use Rattle.ie_catalogue.specs.Views.{later, hiding};
+// A release view hides the entries of later releases.
+ghost use Rattle.ie_catalogue.specs.Views.{later};
 
-use crate::catalogue::Catalogue;
 use crate::entry::Entry;
-use crate::layer::{count_below, entry_below};
+use crate::view::{Hides, View};
 
-#[derive(Drop)]
-pub struct ReleaseView<C> {
-    pub below: C,
-    pub release: u8,
-}
+// The release that a view is for.
+#[derive(Clone, Copy, PartialEq, Eq, PartialOrd, Ord, Debug)]
+pub struct Release(pub u8);
 
-fn is_later(entry: &Entry, release: u8) -> bool
-    ensures { result ≡ later release entry.now }
-{
-    match entry.row() {
-        Some(row) => release < row.release,
-        None => false,
-    }
-}
+pub type ReleaseView<C> = View<C, Release>;
 
-impl<C: Catalogue> Catalogue for ReleaseView<C> {
-    ghost entries = { λ v. map (hiding (later v.release)) (C.Catalogue.entries v.below) };
+impl Hides for Release {
+    ghost hidden = { λ r. later r.0 };
 
-    ghost few = { λ v. few_mapped _ _ (C.Catalogue.few v.below) };
-
-    fn count(&self) -> usize {
-        count_below(&self.below)
-    }
-
-    fn entry(&self, position: usize) -> Option<Entry> {
-        match entry_below(&self.below, position) {
-            Some(entry) => Some(entry.hidden_if(is_later(&entry, self.release))),
-            None => None,
-        }
+    fn hides(&self, entry: &Entry) -> bool {
+        entry.row().is_some_and(|row| self.0 < row.release)
     }
 }

@@ -2,28 +2,21 @@
 ghost use Rattle.std.specs.Prelude.{◌≡◌};
 ghost use Rattle.ie_catalogue.specs.Formats.{format_number};
 
-// How the IE is laid out.
+// How the IE is laid out, with the standard's number for it.
 #[derive(Clone, Copy, PartialEq, Eq, Debug)]
 pub enum Format {
-    TvHalf,
-    T,
-    Tv,
-    Tlv,
-    TlvE,
+    TvHalf = 1,
+    T = 2,
+    Tv = 3,
+    Tlv = 4,
+    TlvE = 6,
 }
 
 impl Format {
-    // The standard's number for it.
     pub fn number(self) -> u8
         ensures { result ≡ format_number self }
     {
-        match self {
-            Format::TvHalf => 1,
-            Format::T => 2,
-            Format::Tv => 3,
-            Format::Tlv => 4,
-            Format::TlvE => 6,
-        }
+        self as u8
     }
 }
 

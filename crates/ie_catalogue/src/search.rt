@@ -34,16 +34,11 @@ impl<C: Catalogue> Questions<'_, C> {
         ensures after { self.new ≡ record { catalogue = self.old.catalogue; asked = self.old.asked + 1 } }
     {
         self.asked += 1;
-        match self.catalogue.entry(position) {
-            Some(entry) => {
-                if entry.covers(octet) {
-                    Some(Designated { position, entry })
-                } else {
-                    None
-                }
-            }
-            None => None,
-        }
+        let entry = self
+            .catalogue
+            .entry(position)
+            .filter(|entry| entry.covers(octet))?;
+        Some(Designated { position, entry })
     }
 
     // Goes on past hidden entries.
@@ -80,8 +75,7 @@ pub fn find<C: Catalogue>(catalogue: &C, octet: u8) -> Search
 pub fn designate<C: Catalogue>(catalogue: &C, octet: u8) -> Option<usize>
     ensures { result ≡ designates (C.Catalogue.entries catalogue.now) octet }
 {
-    match find(catalogue, octet).found {
-        Some(designated) => Some(designated.position),
-        None => None,
-    }
+    find(catalogue, octet)
+        .found
+        .map(|designated| designated.position)
 }

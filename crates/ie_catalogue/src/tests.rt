@@ -3,9 +3,10 @@ use crate::catalogue::Catalogue;
 use crate::checked::CheckedCatalogue;
 use crate::entry::Entry;
 use crate::lent::LentRows;
-use crate::release::ReleaseView;
+use crate::release::Release;
 use crate::row::{Direction, EntryRow, Format, Presence, Test};
 use crate::search::{designate, find};
+use crate::view::View;
 use std::cell::Cell;
 use std::test::Fail;
 
@@ -48,27 +49,24 @@ impl<C: Catalogue> Catalogue for Counting<'_, C> {
 
 #[test]
 fn entry_out_of_bounds(rt: HostRuntime) -> Result<(), Fail> {
-    match Entry::new(optional(16, Format::TvHalf, 0, 15)) {
-        Ok(_) => Err(Fail::new("IEI 16 has no half octet")),
-        Err(refusal) => {
-            assert_eq!(rt; refusal.number(), 7);
-            Ok(())
-        },
-    }
+    let refusal = Entry::new(optional(16, Format::TvHalf, 0, 15))
+        .err()
+        .ok_or("IEI 16 has no half octet")?;
+    assert_eq!(rt; refusal.number(), 7);
+    Ok(())
 }
 
 #[test]
 fn added_twice(rt: HostRuntime) -> Result<(), Fail> {
     let mut catalogue = CheckedCatalogue::new(rt.alloc())?;
     catalogue.add(Entry::new(optional(0x9, Format::TvHalf, 0, 15))?)?;
-    match catalogue.add(Entry::new(optional(0x9a, Format::T, 0, 15))?) {
-        Ok(()) => Err(Fail::new("9A is covered by the half octet 9")),
-        Err(refusal) => {
-            assert_eq!(rt; refusal.number(), 8);
-            assert_eq!(rt; catalogue.count(), 1);
-            Ok(())
-        }
-    }
+    let refusal = catalogue
+        .add(Entry::new(optional(0x9a, Format::T, 0, 15))?)
+        .err()
+        .ok_or("9A is covered by the half octet 9")?;
+    assert_eq!(rt; refusal.number(), 8);
+    assert_eq!(rt; catalogue.count(), 1);
+    Ok(())
 }
 
 #[test]
@@ -79,22 +77,19 @@ fn full_at_64(rt: HostRuntime) -> Result<(), Fail> {
     }
     assert_eq!(rt; designate(&catalogue, 63), Some(63));
     assert_eq!(rt; find(&catalogue, 64).asked, 64);
-    match catalogue.add(Entry::new(optional(64, Format::Tlv, 9, 15))?) {
-        Ok(()) => Err(Fail::new("there is room for 64")),
-        Err(refusal) => {
-            assert_eq!(rt; refusal.number(), 6);
-            Ok(())
-        },
-    }
+    let refusal = catalogue
+        .add(Entry::new(optional(64, Format::Tlv, 9, 15))?)
+        .err()
+        .ok_or("there is room for 64")?;
+    assert_eq!(rt; refusal.number(), 6);
+    Ok(())
 }
 
 #[test]
 fn lent_rows(rt: HostRuntime) -> Result<(), Fail> {
     let rows = [optional(0x25, Format::Tlv, 9, 15); 65];
-    match LentRows::lend(&rows) {
-        Ok(_) => return Err(Fail::new("65 rows")),
-        Err(refusal) => assert_eq!(rt; refusal.number(), 6),
-    }
+    let refusal = LentRows::lend(&rows).err().ok_or("65 rows")?;
+    assert_eq!(rt; refusal.number(), 6);
     let empty = LentRows::lend(&rows[0..0])?;
     assert_eq!(rt; find(&empty, 0x25).asked, 0);
     assert_eq!(rt; designate(&LentRows::lend(&rows[0..64])?, 0x25), Some(0));
@@ -113,9 +108,9 @@ fn found_behind_hidden(rt: HostRuntime) -> Result<(), Fail> {
         below: &lent,
         asked: Cell::new(0),
     };
-    let view = ReleaseView {
+    let view = View {
         below: &counting,
-        release: 15,
+        hidden: Release(15),
     };
     assert_eq!(rt; designate(&lent, 0x25), Some(1));
     assert_eq!(rt; designate(&view, 0x25), Some(2));
@@ -129,14 +124,12 @@ fn found_behind_hidden(rt: HostRuntime) -> Result<(), Fail> {
 #[test]
 fn absent_entry_added(rt: HostRuntime) -> Result<(), Fail> {
     let rows = [optional(0x25, Format::Tlv, 100, 16)];
-    let view = ReleaseView {
+    let view = View {
         below: LentRows::lend(&rows)?,
-        release: 15,
+        hidden: Release(15),
     };
     let mut catalogue = CheckedCatalogue::new(rt.alloc())?;
-    let Some(hidden) = view.entry(0) else {
-        return Err(Fail::new("the position is there"));
-    };
+    let hidden = view.entry(0).ok_or("the position is there")?;
     catalogue.add(hidden)?;
     assert_eq!(rt; catalogue.count(), 1);
     assert_eq!(rt; designate(&catalogue, 0x25), None);

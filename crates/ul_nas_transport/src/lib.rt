@@ -10,6 +10,20 @@ ghost use Rattle.ul_nas_transport.specs.Imperative.{imperative_end};
 use ie_catalogue::lent::LentRows;
 use ie_catalogue::row::{Direction, EntryRow, Format, Presence, Test};
 
+// Uplink, once, never expected nor forbidden.
+const OPTIONAL: EntryRow = EntryRow {
+    iei: 0,
+    format: Format::T,
+    least: 0,
+    greatest: 0,
+    presence: Presence::Optional,
+    limit: 1,
+    release: 15,
+    direction: Direction::Up,
+    expect: Test::Never,
+    forbid: Test::Never,
+};
+
 const ROWS: [EntryRow; 8] = [
     // PDU session ID
     EntryRow {
@@ -18,15 +32,12 @@ const ROWS: [EntryRow; 8] = [
         least: 1,
         greatest: 1,
         presence: Presence::Conditional,
-        limit: 1,
-        release: 15,
-        direction: Direction::Up,
         expect: Test::IfOctet {
             place: 3,
             mask: 0x0f,
             value: 1,
         },
-        forbid: Test::Never,
+        ..OPTIONAL
     },
     // Old PDU session ID
     EntryRow {
@@ -34,25 +45,13 @@ const ROWS: [EntryRow; 8] = [
         format: Format::Tv,
         least: 1,
         greatest: 1,
-        presence: Presence::Optional,
-        limit: 1,
-        release: 15,
-        direction: Direction::Up,
-        expect: Test::Never,
-        forbid: Test::Never,
+        ..OPTIONAL
     },
     // Request type
     EntryRow {
         iei: 0x8,
         format: Format::TvHalf,
-        least: 0,
-        greatest: 0,
-        presence: Presence::Optional,
-        limit: 1,
-        release: 15,
-        direction: Direction::Up,
-        expect: Test::Never,
-        forbid: Test::Never,
+        ..OPTIONAL
     },
     // S-NSSAI
     EntryRow {
@@ -60,12 +59,7 @@ const ROWS: [EntryRow; 8] = [
         format: Format::Tlv,
         least: 1,
         greatest: 8,
-        presence: Presence::Optional,
-        limit: 1,
-        release: 15,
-        direction: Direction::Up,
-        expect: Test::Never,
-        forbid: Test::Never,
+        ..OPTIONAL
     },
     // DNN
     EntryRow {
@@ -73,12 +67,7 @@ const ROWS: [EntryRow; 8] = [
         format: Format::Tlv,
         least: 1,
         greatest: 100,
-        presence: Presence::Optional,
-        limit: 1,
-        release: 15,
-        direction: Direction::Up,
-        expect: Test::Never,
-        forbid: Test::Never,
+        ..OPTIONAL
     },
     // Additional information
     EntryRow {
@@ -86,38 +75,21 @@ const ROWS: [EntryRow; 8] = [
         format: Format::Tlv,
         least: 1,
         greatest: 255,
-        presence: Presence::Optional,
-        limit: 1,
-        release: 15,
-        direction: Direction::Up,
-        expect: Test::Never,
-        forbid: Test::Never,
+        ..OPTIONAL
     },
     // MA PDU session information
     EntryRow {
         iei: 0xa,
         format: Format::TvHalf,
-        least: 0,
-        greatest: 0,
-        presence: Presence::Optional,
-        limit: 1,
         release: 16,
-        direction: Direction::Up,
-        expect: Test::Never,
-        forbid: Test::Never,
+        ..OPTIONAL
     },
     // Release assistance indication
     EntryRow {
         iei: 0xf,
         format: Format::TvHalf,
-        least: 0,
-        greatest: 0,
-        presence: Presence::Optional,
-        limit: 1,
         release: 16,
-        direction: Direction::Up,
-        expect: Test::Never,
-        forbid: Test::Never,
+        ..OPTIONAL
     },
 ];
 
@@ -132,10 +104,7 @@ pub fn catalogue() -> LentRows<'static>
     ensures value { lent_entries result ≡ map meant table }
     ensures present { Holds result }
 {
-    match LentRows::lend(rows()) {
-        Ok(lent) => lent,
-        Err(_) => unreachable(),
-    }
+    LentRows::lend(rows()).unwrap()
 }
 
 // Octets 4 and 5 give the length of the payload container, which follows them and ends the imperative part.
@@ -143,7 +112,7 @@ pub fn imperative_end(message: &[u8]) -> usize
     ensures { result ≡ imperative_end message.now }
 {
     match message {
-        [_, _, _, _, high, low, ..] => 6 + *high as usize * 256 + *low as usize,
+        [_, _, _, _, high, low, ..] => 6 + u16::from_be_bytes([*high, *low]) as usize,
         _ => 6,
     }
 }

@@ -6,7 +6,6 @@ ghost use Rattle.ie_catalogue.specs.Sizes.{sized, size_of};
 ghost use Rattle.ie_catalogue.specs.Spans.{span};
 ghost use Rattle.ie_catalogue.specs.Views.{unless_hidden};
 
-use crate::bounds::row_fits;
 use crate::entry::Entry;
 use crate::refusal::EntryRefusal;
 use crate::row::{EntryRow, Format, Presence, Test};
@@ -29,7 +28,7 @@ impl Entry {
     pub fn new(row: EntryRow) -> Result<Entry, EntryRefusal>
         ensures { answered entry_refusal result ≡ making row }
     {
-        if row_fits(&row) {
+        if row.is_well_formed() {
             Ok(Entry::meant(&row))
         } else {
             Err(EntryRefusal::OutOfBounds)
@@ -53,88 +52,66 @@ impl Entry {
     pub(crate) fn meant(row: &EntryRow) -> Entry
         ensures { result ≡ meant row.now }
     {
-        if row_fits(row) {
-            Entry { row: Some(*row) }
-        } else {
-            Entry { row: None }
+        Entry {
+            row: row.is_well_formed().then_some(*row),
         }
     }
 
     pub fn covers(&self, octet: u8) -> bool
         ensures { result ≡ covers self.now octet }
     {
-        match self.row {
-            Some(row) => match row.format {
-                Format::TvHalf => octet / 16 == row.iei,
-                _ => octet == row.iei,
-            },
-            None => false,
-        }
+        self.row.is_some_and(|row| match row.format {
+            Format::TvHalf => octet / 16 == row.iei,
+            _ => octet == row.iei,
+        })
     }
 
     // The absent entry is optional.
     pub fn presence(&self) -> Presence
         ensures { result ≡ presence_of self.now }
     {
-        match self.row {
-            Some(row) => row.presence,
-            None => Presence::Optional,
-        }
+        self.row.map_or(Presence::Optional, |row| row.presence)
     }
 
     // When the entry is expected; the absent one never is.
     pub fn expect(&self) -> Test
         ensures { result ≡ expect_of self.now }
     {
-        match self.row {
-            Some(row) => row.expect,
-            None => Test::Never,
-        }
+        self.row.map_or(Test::Never, |row| row.expect)
     }
 
     // When the entry is forbidden; the absent one never is.
     pub fn forbid(&self) -> Test
         ensures { result ≡ forbid_of self.now }
     {
-        match self.row {
-            Some(row) => row.forbid,
-            None => Test::Never,
-        }
+        self.row.map_or(Test::Never, |row| row.forbid)
     }
 
     // How often the entry may be taken; the absent one never is.
     pub fn limit(&self) -> u8
         ensures { result ≡ limit_of self.now }
     {
-        match self.row {
-            Some(row) => row.limit,
-            None => 0,
-        }
+        self.row.map_or(0, |row| row.limit)
     }
 
     // Whether a value of so many octets is shorter or longer than the entry allows.
     pub fn size_test(&self, length: usize) -> Size
         ensures { result ≡ size_of self.now length }
     {
-        match self.row {
-            Some(row) => sized(row.least as usize, row.greatest as usize, length),
-            None => sized(0, 0, length),
-        }
+        let (least, greatest) = self.row.map_or((0, 0), |row| (row.least, row.greatest));
+        sized(least as usize, greatest as usize, length)
     }
 
     // The first octet that the entry covers, and the end of those that it covers.
     pub(crate) fn span(&self) -> (u16, u16)
         ensures { result ≡ span self.now }
     {
-        match self.row {
-            Some(row) => {
-                let iei = row.iei as u16;
-                match row.format {
-                    Format::TvHalf => (iei * 16, iei * 16 + 16),
-                    _ => (iei, iei + 1),
-                }
+        self.row.map_or((0, 0), |row| {
+            let iei = row.iei as u16;
+            match row.format {
+                Format::TvHalf => (iei * 16, iei * 16 + 16),
+                _ => (iei, iei + 1),
             }
-            None => (0, 0),
-        }
+        })
     }
 }
