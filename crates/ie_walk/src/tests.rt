@@ -7,10 +7,11 @@ use crate::five_gs::FiveGs;
 use crate::ie::Token;
 use crate::walk::Walk;
 use ie_catalogue::catalogue::Catalogue;
-use ie_catalogue::direction::{DirectionView, Link};
+use ie_catalogue::direction::Link;
 use ie_catalogue::lent::LentRows;
-use ie_catalogue::release::ReleaseView;
+use ie_catalogue::release::Release;
 use ie_catalogue::row::{Direction, EntryRow, Format, Presence, Test};
+use ie_catalogue::view::View;
 use std::test::Fail;
 
 const MESSAGE: [u8; 65536] = [0x80; 65536];
@@ -76,12 +77,12 @@ fn truncated_again_and_again(rt: HostRuntime) -> Result<(), Fail> {
 #[test]
 fn under_a_pile_of_layers(rt: HostRuntime) -> Result<(), Fail> {
     let rows = [row(0x25, Format::Tlv, 2, 16), row(0x25, Format::Tv, 1, 15)];
-    let view = DirectionView {
-        below: ReleaseView {
+    let view = View {
+        below: View {
             below: LentRows::lend(&rows)?,
-            release: 15,
+            hidden: Release(15),
         },
-        link: Link::Up,
+        hidden: Link::Up,
     };
     let rule = Comprehension { below: Eps };
     let message = [0x7e, 0x25, 0x02, 0x0f, 0x01, 0x33, 0x72, 0x00, 0x91];
