@@ -52,11 +52,7 @@ impl Tally for Positions {
 
     ghost joined = { union };
 
-    ghost left = { positions_laws.left };
-
-    ghost right = { positions_laws.right };
-
-    ghost assoc = { positions_laws.assoc };
+    ghost laws = { positions_laws };
 
     fn none() -> Positions {
         Positions { bits: 0 }

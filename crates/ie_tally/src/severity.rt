@@ -31,11 +31,7 @@ impl Tally for Severity {
 
     ghost joined = { greater };
 
-    ghost left = { severity_laws.left };
-
-    ghost right = { severity_laws.right };
-
-    ghost assoc = { severity_laws.assoc };
+    ghost laws = { severity_laws };
 
     fn none() -> Severity {
         Self::Clear

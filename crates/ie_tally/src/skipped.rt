@@ -17,11 +17,7 @@ impl Tally for Skipped {
 
     ghost joined = { sums };
 
-    ghost left = { skipped_laws.left };
-
-    ghost right = { skipped_laws.right };
-
-    ghost assoc = { skipped_laws.assoc };
+    ghost laws = { skipped_laws };
 
     fn none() -> Skipped {
         Skipped { ies: 0, octets: 0 }

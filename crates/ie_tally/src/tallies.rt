@@ -32,11 +32,7 @@ impl Tally for Tallies {
 
     ghost joined = { each_joined };
 
-    ghost left = { tallies_laws.left };
-
-    ghost right = { tallies_laws.right };
-
-    ghost assoc = { tallies_laws.assoc };
+    ghost laws = { tallies_laws };
 
     fn none() -> Tallies {
         Tallies {

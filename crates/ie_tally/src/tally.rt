@@ -1,6 +1,7 @@
 // What a tally is, and the one fold that joins them.
 ghost use Rattle.std.specs.Prelude.{◌≡◌, List, ◌++◌};
 ghost use Rattle.ie_tally.specs.Totals.{total};
+ghost use Rattle.ie_tally.specs.Parted.{Laws};
 
 // Joining is associative, and has a neutral element.
 pub trait Tally: Sized {
@@ -14,11 +15,7 @@ pub trait Tally: Sized {
     fn join(self, other: Self) -> Self
         ensures { result ≡ joined self other };
 
-    ghost left: { (x : Self) → joined neutral x ≡ x };
-
-    ghost right: { (x : Self) → joined x neutral ≡ x };
-
-    ghost assoc: { (x y z : Self) → joined (joined x y) z ≡ joined x (joined y z) };
+    ghost laws: { Laws neutral joined };
 }
 
 // One after the other.
