@@ -6,8 +6,9 @@ ghost use Rattle.ie_tally.specs.Joining.{severity_laws};
 use crate::tally::Tally;
 
 // Nothing that matters; an error as of a conditional IE; an error as of a mandatory IE.
-#[derive(Clone, Copy, PartialEq, Eq, Debug)]
+#[derive(Clone, Copy, PartialEq, Eq, PartialOrd, Ord, Default, Debug)]
 pub enum Severity {
+    #[default]
     Clear,
     Conditional,
     Mandatory,
@@ -17,11 +18,7 @@ impl Severity {
     pub fn number(self) -> u8
         ensures { result ≡ severity_number self }
     {
-        match self {
-            Severity::Clear => 0,
-            Severity::Conditional => 1,
-            Severity::Mandatory => 2,
-        }
+        self as u8
     }
 }
 
@@ -34,14 +31,10 @@ impl Tally for Severity {
     ghost laws = { severity_laws };
 
     fn none() -> Severity {
-        Self::Clear
+        Self::default()
     }
 
     fn join(self, other: Severity) -> Severity {
-        if self.number() < other.number() {
-            other
-        } else {
-            self
-        }
+        self.max(other)
     }
 }

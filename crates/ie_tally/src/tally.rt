@@ -18,22 +18,11 @@ pub trait Tally: Sized {
     ghost laws: { Laws neutral joined };
 }
 
-// One after the other.
-fn fold_all<T: Tally + Copy>(tallies: &[T]) -> T
-    ensures value { result ≡ total T.neutral T.joined tallies.now }
-    ensures parts { (xs ys : List T) → xs ++ ys ≡ tallies.now → result ≡ T.joined (total T.neutral T.joined xs) (total T.neutral T.joined ys) }
-{
-    let mut sum = T::none();
-    for one in tallies {
-        sum = sum.join(*one);
-    }
-    sum
-}
-
 // The tally of all; wherever the list is parted, it is the join of the tallies of both parts.
+#[tactic(auto, using(crate::proofs::Folds::total_from_fold, crate::proofs::Folds::parts_from_fold))]
 pub fn fold<T: Tally + Copy>(tallies: &[T]) -> T
     ensures value { result ≡ total T.neutral T.joined tallies.now }
     ensures parts { (xs ys : List T) → xs ++ ys ≡ tallies.now → result ≡ T.joined (total T.neutral T.joined xs) (total T.neutral T.joined ys) }
 {
-    fold_all(tallies)
+    tallies.iter().copied().fold(T::none(), T::join)
 }
