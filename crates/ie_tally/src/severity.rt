@@ -1,9 +1,10 @@
 // How severe the diagnoses of a message are.
 ghost use Rattle.std.specs.Prelude.{◌≡◌};
-ghost use Rattle.ie_tally.specs.Severities.{severity_number, clear, greater};
+ghost use Rattle.ie_tally.specs.Severities.{severity_number, clear, greater, by_presence};
 ghost use Rattle.ie_tally.specs.Joining.{severity_laws};
 
 use crate::tally::Tally;
+use ie_catalogue::row::Presence;
 
 // Nothing that matters; an error as of a conditional IE; an error as of a mandatory IE.
 #[derive(Clone, Copy, PartialEq, Eq, PartialOrd, Ord, Default, Debug)]
@@ -12,6 +13,19 @@ pub enum Severity {
     Clear,
     Conditional,
     Mandatory,
+}
+
+// That of an ill-sized IE, by the presence of its entry.
+impl From<Presence> for Severity {
+    ghost from_gives = { λ presence r. r ≡ by_presence presence };
+
+    fn from(presence: Presence) -> Severity {
+        match presence {
+            Presence::Mandatory => Severity::Mandatory,
+            Presence::Conditional => Severity::Conditional,
+            Presence::Optional => Severity::Clear,
+        }
+    }
 }
 
 impl Severity {
