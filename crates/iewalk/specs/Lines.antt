@@ -1,5 +1,6 @@
 -- The lines of the listing, as bytes.
---   seen, seen_in, seen_text   what a line says of an IE, from a part or from what is read of it; its text
+--   seen, seen_in  what a line says of an IE, as a part or as read
+--   seen_text      its text
 --   line_text      one line; IEI octets are two upper-case hexadecimal digits, other numbers decimal
 --   text           lines, each with its newline
 --   ie_line        the line of an IE, by its kind, IEI octet, place and size
