@@ -1,24 +1,21 @@
 -- A set has a greater position exactly if more than one bit is left of it from the position on.
 use Rattle.std.proofs.Common.{◌≡◌, ℕ, suc, ◌+◌, ◌-◌, ◌/◌, ◌%◌, ◌^◌, ◌<◌, ◌≤◌, true, false, ◌&&◌, eqb, ltb, sym, ap, ◌∙◌, ⊎_elim, pow-suc, arith, pow_mono}
+use Rattle.std.proofs.Math.Nat.{div-eq_of_lt}
 use Rattle.std.proofs.lemmas.Nat.{shr-shr, le-div, div_below, leading_top, pow_pos, pow_below}
 use Rattle.std.proofs.lemmas.Bool.{ltb-true, lt-ltb, cases_lt, and_right, and_from, and_parts, both_ways, cases_Bool}
 use Rattle.std.proofs.lemmas.Bool.Decides.{same_from_decides}
 use Rattle.ie_catalogue.proofs.Below.{some_decides}
 use Rattle.ie_tally.specs.Sets.{has, has_above}
 
--- nothing is left of a number below 2 ^ k
-gone : (n k : ℕ) → n < 2 ^ k → n / 2 ^ k ≡ 0
-gone n k h = let b : n / 2 ^ k < 1 = div_below n (2 ^ k) 1 (pow_pos k) (omega arith) in omega arith
-
 no_bit : (s p q : ℕ) → s / 2 ^ p ≤ 1 → p < q → has s q ≡ false
 no_bit s p q h lt =
     let k : p + (q - p) ≡ q = omega arith in
     let w = pow_below 0 (q - p) (omega arith) in
-    let z : s / 2 ^ q ≡ 0 = ap (λ n. s / 2 ^ n) (sym k) ∙ sym (shr-shr s p (q - p)) ∙ gone (s / 2 ^ p) (q - p) (omega arith) in
+    let z : s / 2 ^ q ≡ 0 = ap (λ n. s / 2 ^ n) (sym k) ∙ sym (shr-shr s p (q - p)) ∙ div-eq_of_lt (omega arith) in
     and_right (ltb q 64) (eqb (s / 2 ^ q % 2) 1) (ap (λ n. eqb (n % 2) 1) z)
 
 no_zero : (s p : ℕ) → s ≡ 0 → 1 < s / 2 ^ p → ⊥
-no_zero s p z big = let g = gone s p (omega (arith, pow_pos p)) in omega arith
+no_zero s p z big = let g : s / 2 ^ p ≡ 0 = div-eq_of_lt (omega (arith, pow_pos p)) in omega arith
 
 -- the top position of a set that is not empty
 top_bit : (s j : ℕ) → j < 64 → 2 ^ j ≤ s → s < 2 ^ suc j → has s j ≡ true

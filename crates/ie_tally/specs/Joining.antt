@@ -4,7 +4,6 @@ use Rattle.std.proofs.Common.{ap, ap₂, rules}
 use Rattle.std.specs.Int.Bits.{or_zero_r}
 use Rattle.ie_tally.specs.declared.positions.Positions.{Positions}
 use Rattle.ie_tally.specs.declared.severity.Severity.{Severity}
-use Rattle.ie_tally.specs.declared.severity.Severity.TheVariants.{Clear, Conditional, Mandatory}
 use Rattle.ie_tally.specs.declared.skipped.Skipped.{Skipped}
 use Rattle.ie_tally.specs.declared.tallies.Tallies.{Tallies}
 use Rattle.ie_tally.specs.Severities.{clear, greater}
@@ -14,19 +13,6 @@ use Rattle.ie_tally.specs.Tallies.{no_tallies, each_joined}
 use Rattle.ie_tally.specs.Bitset.{or_assoc}
 use Rattle.ie_tally.specs.Saturating.{saturating_right, saturating_left, saturating_assoc}
 use Rattle.ie_tally.specs.Parted.{Laws}
-
-greater_left : (x : Severity) → greater Clear x ≡ x
-greater_left Clear = refl
-greater_left Conditional = refl
-greater_left Mandatory = refl
-
-greater_right : (x : Severity) → greater x Clear ≡ x
-greater_right Clear = refl
-greater_right Conditional = refl
-greater_right Mandatory = refl
-
-greater_assoc : (x y z : Severity) → greater (greater x y) z ≡ greater x (greater y z)
-greater_assoc x y z = search rules
 
 abbrev of_bits : ℕ → Positions
 of_bits n = record { bits = n }
@@ -38,7 +24,7 @@ abbrev of_three : Severity → Positions → Skipped → Tallies
 of_three s t k = record { severity = s; taken = t; skipped = k }
 
 pub severity_laws : Laws clear greater
-severity_laws = record { left = greater_left; right = greater_right; assoc = greater_assoc }
+severity_laws = record { left = λ x. search rules; right = λ x. search rules; assoc = λ x y z. search rules }
 
 pub positions_laws : Laws no_positions union
 positions_laws =
@@ -57,7 +43,7 @@ skipped_laws =
     }
 
 -- the three, each equal to its like
-pub three_same : (a b : Tallies) → a.severity ≡ b.severity → a.taken ≡ b.taken → a.skipped ≡ b.skipped → a ≡ b
+three_same : (a b : Tallies) → a.severity ≡ b.severity → a.taken ≡ b.taken → a.skipped ≡ b.skipped → a ≡ b
 three_same a b p q r = λ i. of_three (p i) (q i) (r i)
 
 pub tallies_laws : Laws no_tallies each_joined

@@ -1,4 +1,6 @@
 -- The lines of the listing, as bytes.
+--   seen, seen_in  what a line says of an IE, as a part or as read
+--   seen_text      its text
 --   line_text      one line; IEI octets are two upper-case hexadecimal digits, other numbers decimal
 --   text           lines, each with its newline
 --   ie_line        the line of an IE, by its kind, IEI octet, place and size
@@ -12,18 +14,20 @@ use Rattle.ie_walk.specs.declared.faults.IeFault.{IeFault}
 use Rattle.ie_walk.specs.declared.faults.Placed.{Placed}
 use Rattle.ie_walk.specs.Reading.{Kind, known, skippable, demanding}
 use Rattle.ie_walk.specs.Totals.{ies_of, octets_of}
-use Rattle.ie_walk.specs.Walks.{Part, Found}
+use Rattle.ie_walk.specs.declared.ie.Ie.{Ie}
+use Rattle.ie_walk.specs.Walks.{Part, Found, part_in}
+use Rattle.iewalk.specs.declared.line.Seen.{Seen}
 use Rattle.iewalk.specs.declared.line.Line.{Line}
 use Rattle.iewalk.specs.declared.line.Line.TheVariants.{Known, Skippable, Demanding, Truncated, Refused, End}
 
--- "12 at=9 size=2"
-abbrev pub span_text : HexOctet → ℕ → ℕ → List ℕ
-span_text iei place size = hex_octet iei.0 ++ (codes " at=" ++ (decimal place ++ (codes " size=" ++ decimal size)))
+-- "iei=12 at=9 size=2"
+abbrev pub seen_text : Seen → List ℕ
+seen_text x = codes "iei=" ++ (hex_octet x.iei.0 ++ (codes " at=" ++ (decimal x.place ++ (codes " size=" ++ decimal x.size))))
 
 abbrev pub line_text : Line → List ℕ
-line_text (Known entry iei place size) = codes "known entry=" ++ (decimal entry ++ (codes " iei=" ++ span_text iei place size))
-line_text (Skippable iei place size) = codes "skippable iei=" ++ span_text iei place size
-line_text (Demanding iei place size) = codes "demanding iei=" ++ span_text iei place size
+line_text (Known entry seen) = codes "known entry=" ++ (decimal entry ++ (codes " " ++ seen_text seen))
+line_text (Skippable seen) = codes "skippable " ++ seen_text seen
+line_text (Demanding seen) = codes "demanding " ++ seen_text seen
 line_text (Truncated iei place needed at_hand) = codes "truncated iei=" ++ (hex_octet iei.0 ++ (codes " at=" ++ (decimal place ++ (codes " needed=" ++ (decimal needed ++ (codes " at_hand=" ++ decimal at_hand))))))
 line_text (Refused number) = codes "refused " ++ decimal number
 line_text (End ies octets) = codes "end ies=" ++ (decimal ies ++ (codes " octets=" ++ decimal octets))
@@ -35,10 +39,16 @@ text (x ∷ xs) = (line_text x ++ codes "\n") ++ text xs
 abbrev pub hex : ℕ → HexOctet
 hex octet = record { 0 = octet }
 
+abbrev pub seen : Part → Seen
+seen p = record { iei = hex p.iei; place = p.place; size = length p.whole }
+
+abbrev pub seen_in : Ie → Seen
+seen_in i = seen (part_in i)
+
 abbrev pub ie_line_by : Kind → Part → Line
-ie_line_by (known position) p = Known position (hex p.iei) p.place (length p.whole)
-ie_line_by skippable p = Skippable (hex p.iei) p.place (length p.whole)
-ie_line_by demanding p = Demanding (hex p.iei) p.place (length p.whole)
+ie_line_by (known position) p = Known position (seen p)
+ie_line_by skippable p = Skippable (seen p)
+ie_line_by demanding p = Demanding (seen p)
 
 abbrev pub ie_line : Found → Line
 ie_line f = ie_line_by f.kind f.part

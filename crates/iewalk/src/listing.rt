@@ -3,7 +3,6 @@ ghost use Rattle.std.specs.Prelude.{◌≡◌, ◌≤◌, ◌++◌, map, IfOk, s
 ghost use Rattle.ie_walk.specs.Reading.{reading};
 ghost use Rattle.ie_walk.specs.Runs.{left};
 ghost use Rattle.ie_walk.specs.Totals.{ies_of, octets_of};
-ghost use Rattle.ie_walk.specs.Walks.{found_in};
 ghost use Rattle.iewalk.specs.Lines.{text, ie_line, closing_line};
 ghost use Rattle.iewalk.specs.Listing.{Appends, Listing};
 
@@ -14,7 +13,6 @@ use ie_walk::comprehension::Comprehension;
 use ie_walk::divide::{Division, divide};
 use ie_walk::faults::MessageFault;
 use ie_walk::five_gs::FiveGs;
-use ie_walk::ie::Token;
 use ie_walk::skip::SkipRule;
 use ie_walk::walk::Walk;
 use std::alloc::Global;
@@ -22,29 +20,6 @@ use ul_nas_transport::{catalogue, imperative_end};
 
 // The most octets that the program takes.
 pub const LONGEST_INPUT: usize = 4096;
-
-fn line_of(token: Token<'_>) -> Line
-    ensures { result ≡ ie_line (found_in token.entry) }
-{
-    match token {
-        Token::Known { position, ie } => Line::Known {
-            entry: position,
-            iei: HexOctet(ie.iei),
-            place: ie.place,
-            size: ie.whole.len(),
-        },
-        Token::Skippable(ie) => Line::Skippable {
-            iei: HexOctet(ie.iei),
-            place: ie.place,
-            size: ie.whole.len(),
-        },
-        Token::Demanding(ie) => Line::Demanding {
-            iei: HexOctet(ie.iei),
-            place: ie.place,
-            size: ie.whole.len(),
-        },
-    }
-}
 
 fn last_line(division: Division) -> Line
     requires ies { ies_of division.totals ≤ 65535 }
@@ -73,7 +48,7 @@ fn push_ies<C: Catalogue, S: SkipRule>(
     ensures { OnOk result (string_bytes out.new ≡ string_bytes out.old ++ text (map ie_line (left C.Catalogue.entries S.SkipRule.framed S.SkipRule.demands walk.entry).tokens)) }
 {
     while let Ok(Some(token)) = walk.step() {
-        push_line(out, line_of(token))?;
+        push_line(out, Line::from(token))?;
     }
     Ok(())
 }
