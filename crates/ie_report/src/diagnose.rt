@@ -16,11 +16,10 @@ use ie_walk::skip::{Frame, SkipRule};
 fn in_frame(format: Option<Format>, frame: Frame) -> bool
     ensures { result ≡ in_frame format frame }
 {
-    match (format, frame) {
-        (Some(Format::Tlv), Frame::Tlv) => true,
-        (Some(Format::TlvE), Frame::TlvE) => true,
-        _ => false,
-    }
+    matches!(
+        (format, frame),
+        (Some(Format::Tlv), Frame::Tlv) | (Some(Format::TlvE), Frame::TlvE)
+    )
 }
 
 fn diagnosis_at(kind: DiagnosisKind, row: &Row) -> Placed<Diagnosis>
@@ -49,11 +48,10 @@ pub(crate) fn diagnose<C: Catalogue, S: SkipRule>(
         RowKind::OutOfSequence => {
             let format = format_of(catalogue.entry(row.position));
             let framed = in_frame(format, rule.frame(row.iei));
-            if framed && rule.demanding(row.iei) {
-                Some(diagnosis_at(DiagnosisKind::OutOfSequence, row))
-            } else {
-                None
-            }
+            (framed && rule.demanding(row.iei)).then(|| diagnosis_at(
+                DiagnosisKind::OutOfSequence,
+                row,
+            ))
         }
         RowKind::IllSized => Some(diagnosis_at(DiagnosisKind::IllSized, row)),
         RowKind::UnknownDemanding => Some(diagnosis_at(DiagnosisKind::UnknownDemanding, row)),

@@ -9,24 +9,18 @@ use ie_tally::tally::Tally;
 // What became of the IE.
 #[derive(Clone, Copy, PartialEq, Eq, Debug)]
 pub enum RowKind {
-    Taken,
-    Surplus,
-    OutOfSequence,
-    IllSized,
-    UnknownDemanding,
+    Taken = 1,
+    Surplus = 2,
+    OutOfSequence = 3,
+    IllSized = 4,
+    UnknownDemanding = 5,
 }
 
 impl RowKind {
     pub fn number(self) -> u8
         ensures { result ≡ row_number self }
     {
-        match self {
-            RowKind::Taken => 1,
-            RowKind::Surplus => 2,
-            RowKind::OutOfSequence => 3,
-            RowKind::IllSized => 4,
-            RowKind::UnknownDemanding => 5,
-        }
+        self as u8
     }
 }
 
@@ -48,10 +42,8 @@ pub struct Row {
 fn part(message: &[u8], place: usize, length: usize) -> &[u8]
     ensures { result.now ≡ take length (drop place message.now) }
 {
-    let from = place.min(message.len());
-    let rest = &message[from..];
-    let size = length.min(rest.len());
-    &rest[0..size]
+    let rest = message.get(place..).unwrap_or_default();
+    rest.get(..length).unwrap_or(rest)
 }
 
 impl Row {
