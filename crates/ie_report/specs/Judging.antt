@@ -56,7 +56,7 @@ abbrev pub state : List ℕ → ℕ → State
 state times admitted = record { times = times; admitted = admitted }
 
 abbrev pub met : {O : Type 0} → (O → ℕ) → Met O → State
-met admitted m = state m.times.times (admitted m.order)
+met admitted m = state m.times.times (admitted m.order.now)
 
 abbrev pub fresh : State
 fresh = state (replicate 64 0) 0

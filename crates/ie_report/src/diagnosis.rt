@@ -21,7 +21,8 @@ impl DiagnosisKind {
     }
 }
 
-// `position` is 64 where no entry is designated; the IEI octet of a diagnosis of an entry is 0, and so is its place.
+// A plain record of numbers, as a row is: `position` is 64 where no entry is designated; the IEI octet of a diagnosis
+// of an entry is 0, and so is its place.
 #[derive(Clone, Copy, PartialEq, Eq, Debug)]
 pub struct Diagnosis {
     pub kind: DiagnosisKind,

@@ -52,18 +52,18 @@ fn row_by(kind: RowKind, position: usize, half: u8, ie: Ie<'_>) -> Row
 
 // What was met so far: the positions that the order rule admitted, and how often each entry was taken.
 #[derive(Drop)]
-pub struct Met<O> {
-    pub(crate) order: O,
+pub struct Met<'o, O> {
+    pub(crate) order: &'o mut O,
     times: TimesTaken,
 }
 
-impl<O: OrderRule> Met<O> {
+impl<'o, O: OrderRule> Met<'o, O> {
     // Nothing yet: the order rule is reset.
-    pub(crate) fn none(order: O) -> Met<O>
-        ensures none { met O.OrderRule.admitted result ≡ fresh }
-        ensures same { SameOrder (O.OrderRule.admits result.order) (O.OrderRule.admits order) }
+    pub(crate) fn none(order: &'o mut O) -> Met<'o, O>
+        ensures same_reference { result.order.ghost_name ≡ order.entry.ghost_name }
+        ensures value { met O.OrderRule.admitted result ≡ fresh }
+        ensures same { SameOrder (O.OrderRule.admits result.order.now) (O.OrderRule.admits order.old) }
     {
-        let mut order = order;
         order.reset();
         Met {
             order,
@@ -73,9 +73,10 @@ impl<O: OrderRule> Met<O> {
 
     // First the limit, then the order rule, then the size.
     fn judge_known(&mut self, entry: Option<Entry>, position: usize, length: usize) -> RowKind
-        ensures value { result ≡ kind_of (O.OrderRule.admits self.old.order) (entry_in entry) (met O.OrderRule.admitted self.old) position length }
+        ensures same_reference { self.new.order.ghost_name ≡ self.old.order.ghost_name }
+        ensures value { result ≡ kind_of (O.OrderRule.admits self.old.order.now) (entry_in entry) (met O.OrderRule.admitted self.old) position length }
         ensures after { met O.OrderRule.admitted self.new ≡ after_by result position (met O.OrderRule.admitted self.old) }
-        ensures same { SameOrder (O.OrderRule.admits self.new.order) (O.OrderRule.admits self.old.order) }
+        ensures same { SameOrder (O.OrderRule.admits self.new.order.now) (O.OrderRule.admits self.old.order.now) }
     {
         let Some(known) = entry else {
             return RowKind::Surplus;
@@ -98,9 +99,10 @@ impl<O: OrderRule> Met<O> {
     // The row of an IE; a skippable one has none.
     pub(crate) fn judge<C: Catalogue>(&mut self, catalogue: &C, token: Token<'_>) -> Option<Row>
         requires { (found_in token).part.place + length (found_in token).part.whole ≤ 65535 }
-        ensures value { option_to_list result ≡ judged_row (C.Catalogue.entries catalogue.now) (O.OrderRule.admits self.old.order) (met O.OrderRule.admitted self.old) (found_in token.entry) }
-        ensures after { met O.OrderRule.admitted self.new ≡ judged_state (C.Catalogue.entries catalogue.now) (O.OrderRule.admits self.old.order) (met O.OrderRule.admitted self.old) (found_in token.entry) }
-        ensures same { SameOrder (O.OrderRule.admits self.new.order) (O.OrderRule.admits self.old.order) }
+        ensures same_reference { self.new.order.ghost_name ≡ self.old.order.ghost_name }
+        ensures value { option_to_list result ≡ judged_row (C.Catalogue.entries catalogue.now) (O.OrderRule.admits self.old.order.now) (met O.OrderRule.admitted self.old) (found_in token.entry) }
+        ensures after { met O.OrderRule.admitted self.new ≡ judged_state (C.Catalogue.entries catalogue.now) (O.OrderRule.admits self.old.order.now) (met O.OrderRule.admitted self.old) (found_in token.entry) }
+        ensures same { SameOrder (O.OrderRule.admits self.new.order.now) (O.OrderRule.admits self.old.order.now) }
     {
         match token {
             Token::Known { position, ie } => {

@@ -19,18 +19,3 @@ pub trait OrderRule {
         ensures after { admitted self.new ≡ admitted_after (admits self.old) (admitted self.old) position }
         ensures same { SameOrder (admits self.new) (admits self.old) };
 }
-
-// A rule that is lent is a rule.
-impl<O: OrderRule> OrderRule for &mut O {
-    ghost admitted = { λ rule. O.OrderRule.admitted rule.now };
-
-    ghost admits = { λ rule. O.OrderRule.admits rule.now };
-
-    fn reset(&mut self) {
-        OrderRule::reset(&mut **self)
-    }
-
-    fn offer(&mut self, position: usize) -> bool {
-        OrderRule::offer(&mut **self, position)
-    }
-}

@@ -163,7 +163,8 @@ fn judged_in_turn(rt: HostRuntime) -> Result<(), Fail> {
     ];
     let catalogue = LentRows::lend(&rows)?;
     let rule = Comprehension { below: FiveGs };
-    let mut met = Met::none(Ordered::new(Listed));
+    let mut order = Ordered::new(Listed);
+    let mut met = Met::none(&mut order);
     let first = met.judge(&catalogue, OPTIONAL).ok_or("a row")?;
     assert_eq!(rt; first.kind, RowKind::Taken);
     assert_eq!(rt; first.value(&[0, 0x27, 1, 0x22, 0x05]), [0x22].as_slice());
@@ -192,8 +193,8 @@ fn offered_once(rt: HostRuntime) -> Result<(), Fail> {
         row(0x27, Presence::Optional),
     ];
     let catalogue = LentRows::lend(&rows)?;
-    let mut rule = Counting::over(Ordered::new(Free));
-    let mut met = Met::none(&mut rule);
+    let mut order = Counting::over(Ordered::new(Free));
+    let mut met = Met::none(&mut order);
     let _ = met.judge(&catalogue, OPTIONAL);
     assert_eq!(rt; met.order.offers, 1);
     let _ = met.judge(&catalogue, OPTIONAL);
@@ -202,9 +203,9 @@ fn offered_once(rt: HostRuntime) -> Result<(), Fail> {
     assert_eq!(rt; met.order.offers, 1);
     let _ = met.judge(&catalogue, MANDATORY);
     assert_eq!(rt; met.order.offers, 2);
-    let mut closed = Met::none(Counting::over(Ordered::new(Closed)));
-    let _ = closed.judge(&catalogue, OPTIONAL);
-    assert_eq!(rt; closed.order.offers, 1);
+    let mut closed = Counting::over(Ordered::new(Closed));
+    let _ = Met::none(&mut closed).judge(&catalogue, OPTIONAL);
+    assert_eq!(rt; closed.offers, 1);
     assert_eq!(rt; skipped(Token::Skippable(UNKNOWN)).octets, 2);
     assert_eq!(rt; skipped(Token::Demanding(UNKNOWN)).octets, 0);
     Ok(())
