@@ -1,5 +1,5 @@
 // What becomes of one IE, after those before it.
-ghost use Rattle.std.specs.Prelude.{◌≡◌, ℕ, ◌+◌, ◌≤◌, length};
+ghost use Rattle.std.specs.Prelude.{◌≡◌, ℕ};
 ghost use Rattle.std.specs.Option.{option_to_list};
 ghost use Rattle.ie_walk.specs.Walks.{part_in, found_in};
 ghost use Rattle.ie_report.specs.Judging.{entry_in, format_in, state, kind_of, after as after_by};
@@ -70,7 +70,6 @@ fn half_by(format: Option<Format>, iei: u8) -> u8
 }
 
 fn row_by(kind: RowKind, position: usize, half: u8, ie: Ie<'_>) -> Row
-    requires { ie.place + length ie.whole.now ≤ 65535 }
     ensures { result ≡ row_by kind position half (part_in ie.entry) }
 {
     Row {
@@ -79,7 +78,7 @@ fn row_by(kind: RowKind, position: usize, half: u8, ie: Ie<'_>) -> Row
         iei: ie.iei,
         place: ie.place,
         size: ie.whole.len(),
-        value_place: ie.place + ie.whole.len().saturating_sub(ie.value.len()),
+        value_place: ie.place + (ie.whole.len() - ie.value.len()),
         value_length: ie.value.len(),
         half,
     }
@@ -92,7 +91,6 @@ pub(crate) fn judge<C: Catalogue, O: OrderRule>(
     times: &mut TimesTaken,
     token: Token<'_>,
 ) -> Option<Row>
-    requires { (found_in token).part.place + length (found_in token).part.whole ≤ 65535 }
     ensures value { option_to_list result ≡ judged_row (C.Catalogue.entries catalogue.now) (O.OrderRule.admits order.old) (state times.old.times (O.OrderRule.admitted order.old)) (found_in token.entry) }
     ensures after { state times.new.times (O.OrderRule.admitted order.new) ≡ judged_state (C.Catalogue.entries catalogue.now) (O.OrderRule.admits order.old) (state times.old.times (O.OrderRule.admitted order.old)) (found_in token.entry) }
     ensures same { (s p : ℕ) → O.OrderRule.admits order.new s p ≡ O.OrderRule.admits order.old s p }
@@ -111,7 +109,6 @@ pub(crate) fn judge<C: Catalogue, O: OrderRule>(
 
 // What is skipped with an IE: it, if it is skippable.
 pub(crate) fn skipped(token: Token<'_>) -> Skipped
-    requires { length (found_in token).part.whole ≤ 65535 }
     ensures { result ≡ skip_of (found_in token.entry) }
 {
     match token {
