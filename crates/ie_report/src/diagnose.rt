@@ -1,6 +1,6 @@
 // The diagnosis of a row, and how severe a diagnosis is.
 ghost use Rattle.std.specs.Prelude.{◌≡◌};
-ghost use Rattle.ie_walk.specs.Reading.{reading};
+ghost use Rattle.ie_walk.specs.Reading.{reads};
 ghost use Rattle.ie_report.specs.Diagnosing.{in_frame, of_row, diagnosis_of, by_presence, severity_of};
 
 use crate::diagnosis::{Diagnosis, DiagnosisKind};
@@ -10,6 +10,7 @@ use ie_catalogue::catalogue::Catalogue;
 use ie_catalogue::row::{Format, Presence};
 use ie_tally::severity::Severity;
 use ie_walk::faults::Placed;
+use ie_walk::reader::Reader;
 use ie_walk::skip::{Frame, SkipRule};
 
 // Whether the format is the frame.
@@ -37,18 +38,17 @@ fn diagnosis_at(kind: DiagnosisKind, row: &Row) -> Placed<Diagnosis>
 
 // An IE out of sequence is diagnosed only where an unknown IE with its octet would be framed alike, and demanding.
 pub(crate) fn diagnose<C: Catalogue, S: SkipRule>(
-    catalogue: &C,
-    rule: &S,
+    reader: Reader<'_, C, S>,
     row: &Row,
 ) -> Option<Placed<Diagnosis>>
-    ensures { result ≡ diagnosis_of (reading (C.Catalogue.entries catalogue.now) (S.SkipRule.framed rule.now) (S.SkipRule.demands rule.now)) row.now }
+    ensures { result ≡ diagnosis_of (reads C.Catalogue S.SkipRule reader.entry) row.now }
 {
     match row.kind {
         RowKind::Taken | RowKind::Surplus => None,
         RowKind::OutOfSequence => {
-            let format = format_of(catalogue.entry(row.position));
-            let framed = in_frame(format, rule.frame(row.iei));
-            (framed && rule.demanding(row.iei)).then(|| diagnosis_at(
+            let format = format_of(reader.catalogue.entry(row.position));
+            let framed = in_frame(format, reader.rule.frame(row.iei));
+            (framed && reader.rule.demanding(row.iei)).then(|| diagnosis_at(
                 DiagnosisKind::OutOfSequence,
                 row,
             ))

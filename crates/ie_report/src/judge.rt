@@ -1,5 +1,5 @@
 // What becomes of one IE, after those before it.
-ghost use Rattle.std.specs.Prelude.{◌≡◌, ◌+◌, ◌≤◌, length};
+ghost use Rattle.std.specs.Prelude.{◌≡◌};
 ghost use Rattle.std.specs.Option.{option_to_list};
 ghost use Rattle.ie_walk.specs.Walks.{part_in, found_in};
 ghost use Rattle.ie_report.specs.Orders.{SameOrder};
@@ -35,7 +35,6 @@ fn half_by(format: Option<Format>, iei: u8) -> u8
 }
 
 fn row_by(kind: RowKind, position: usize, half: u8, ie: Ie<'_>) -> Row
-    requires { ie.place + length ie.whole.now ≤ 65535 }
     ensures { result ≡ row_by kind position half (part_in ie.entry) }
 {
     Row {
@@ -44,7 +43,7 @@ fn row_by(kind: RowKind, position: usize, half: u8, ie: Ie<'_>) -> Row
         iei: ie.iei,
         place: ie.place,
         size: ie.whole.len(),
-        value_place: ie.place + ie.whole.len().saturating_sub(ie.value.len()),
+        value_place: ie.place + (ie.whole.len() - ie.value.len()),
         value_length: ie.value.len(),
         half,
     }
@@ -61,7 +60,7 @@ impl<'o, O: OrderRule> Met<'o, O> {
     // Nothing yet: the order rule is reset.
     pub(crate) fn none(order: &'o mut O) -> Met<'o, O>
         ensures same_reference { result.order.ghost_name ≡ order.entry.ghost_name }
-        ensures value { met O.OrderRule.admitted result ≡ fresh }
+        ensures value { met O.OrderRule result ≡ fresh }
         ensures same { SameOrder (O.OrderRule.admits result.order.now) (O.OrderRule.admits order.old) }
     {
         order.reset();
@@ -74,8 +73,8 @@ impl<'o, O: OrderRule> Met<'o, O> {
     // First the limit, then the order rule, then the size.
     fn judge_known(&mut self, entry: Option<Entry>, position: usize, length: usize) -> RowKind
         ensures same_reference { self.new.order.ghost_name ≡ self.old.order.ghost_name }
-        ensures value { result ≡ kind_of (O.OrderRule.admits self.old.order.now) (entry_in entry) (met O.OrderRule.admitted self.old) position length }
-        ensures after { met O.OrderRule.admitted self.new ≡ after_by result position (met O.OrderRule.admitted self.old) }
+        ensures value { result ≡ kind_of (O.OrderRule.admits self.old.order.now) (entry_in entry) (met O.OrderRule self.old) position length }
+        ensures after { met O.OrderRule self.new ≡ after_by result position (met O.OrderRule self.old) }
         ensures same { SameOrder (O.OrderRule.admits self.new.order.now) (O.OrderRule.admits self.old.order.now) }
     {
         let Some(known) = entry else {
@@ -98,10 +97,9 @@ impl<'o, O: OrderRule> Met<'o, O> {
 
     // The row of an IE; a skippable one has none.
     pub(crate) fn judge<C: Catalogue>(&mut self, catalogue: &C, token: Token<'_>) -> Option<Row>
-        requires { (found_in token).part.place + length (found_in token).part.whole ≤ 65535 }
         ensures same_reference { self.new.order.ghost_name ≡ self.old.order.ghost_name }
-        ensures value { option_to_list result ≡ judged_row (C.Catalogue.entries catalogue.now) (O.OrderRule.admits self.old.order.now) (met O.OrderRule.admitted self.old) (found_in token.entry) }
-        ensures after { met O.OrderRule.admitted self.new ≡ judged_state (C.Catalogue.entries catalogue.now) (O.OrderRule.admits self.old.order.now) (met O.OrderRule.admitted self.old) (found_in token.entry) }
+        ensures value { option_to_list result ≡ judged_row (C.Catalogue.entries catalogue.now) (O.OrderRule.admits self.old.order.now) (met O.OrderRule self.old) (found_in token.entry) }
+        ensures after { met O.OrderRule self.new ≡ judged_state (C.Catalogue.entries catalogue.now) (O.OrderRule.admits self.old.order.now) (met O.OrderRule self.old) (found_in token.entry) }
         ensures same { SameOrder (O.OrderRule.admits self.new.order.now) (O.OrderRule.admits self.old.order.now) }
     {
         match token {
@@ -119,7 +117,6 @@ impl<'o, O: OrderRule> Met<'o, O> {
 
 // What is skipped with an IE: it, if it is skippable.
 pub(crate) fn skipped(token: Token<'_>) -> Skipped
-    requires { length (found_in token).part.whole ≤ 65535 }
     ensures { result ≡ skip_of (found_in token.entry) }
 {
     match token {

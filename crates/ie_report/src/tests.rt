@@ -21,6 +21,7 @@ use ie_walk::comprehension::Comprehension;
 use ie_walk::faults::MessageFault;
 use ie_walk::five_gs::FiveGs;
 use ie_walk::ie::{Ie, Token};
+use ie_walk::reader::Reader;
 use std::test::Fail;
 
 // Every position has a rank in a lent table, 0 beyond it; none may follow one of a greater rank.
@@ -162,7 +163,10 @@ fn judged_in_turn(rt: HostRuntime) -> Result<(), Fail> {
         row(0x27, Presence::Optional),
     ];
     let catalogue = LentRows::lend(&rows)?;
-    let rule = Comprehension { below: FiveGs };
+    let reader = Reader {
+        catalogue: &catalogue,
+        rule: &Comprehension { below: FiveGs },
+    };
     let mut order = Ordered::new(Listed);
     let mut met = Met::none(&mut order);
     let first = met.judge(&catalogue, OPTIONAL).ok_or("a row")?;
@@ -171,7 +175,7 @@ fn judged_in_turn(rt: HostRuntime) -> Result<(), Fail> {
     assert!(rt; first.value(&[0, 0x27]).is_empty());
     let second = met.judge(&catalogue, MANDATORY).ok_or("a row")?;
     assert_eq!(rt; second.kind.number(), 3);
-    let diagnosis = diagnose(&catalogue, &rule, &second).ok_or("0F and less are demanding")?;
+    let diagnosis = diagnose(reader, &second).ok_or("0F and less are demanding")?;
     assert_eq!(rt; diagnosis.place, 4);
     assert_eq!(rt; diagnosis.thing.kind.number(), 2);
     assert_eq!(rt; severity(&catalogue, &diagnosis.thing), Severity::Mandatory);
