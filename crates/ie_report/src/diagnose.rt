@@ -48,10 +48,8 @@ pub(crate) fn diagnose<C: Catalogue, S: SkipRule>(
         RowKind::OutOfSequence => {
             let format = format_of(reader.catalogue.entry(row.position));
             let framed = in_frame(format, reader.rule.frame(row.iei));
-            (framed && reader.rule.demanding(row.iei)).then(|| diagnosis_at(
-                DiagnosisKind::OutOfSequence,
-                row,
-            ))
+            let demanding = framed && reader.rule.demanding(row.iei);
+            demanding.then(|| diagnosis_at(DiagnosisKind::OutOfSequence, row))
         }
         RowKind::IllSized => Some(diagnosis_at(DiagnosisKind::IllSized, row)),
         RowKind::UnknownDemanding => Some(diagnosis_at(DiagnosisKind::UnknownDemanding, row)),
