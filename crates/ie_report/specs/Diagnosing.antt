@@ -23,6 +23,7 @@ use Rattle.ie_walk.specs.Reading.{Reading}
 use Rattle.ie_tally.specs.declared.severity.Severity.{Severity}
 use Rattle.ie_tally.specs.declared.severity.Severity.TheVariants as severity
 use Rattle.ie_tally.specs.Sets.{has}
+use Rattle.ie_tally.specs.Severities.{by_presence}
 use Rattle.ie_report.specs.declared.row.Row.{Row}
 use Rattle.ie_report.specs.declared.row.RowKind.{RowKind}
 use Rattle.ie_report.specs.declared.row.RowKind.TheVariants as row
@@ -91,12 +92,6 @@ abbrev pub afterwards : List ℕ → ℕ → ℕ → List Entry → List (Placed
 afterwards imperative taken p [] = []
 afterwards imperative taken p (e ∷ es) =
     option_to_list (option_map (at_position p) (wrong_with imperative taken p e)) ++ afterwards imperative taken (suc p) es
-
--- of an ill-sized IE
-abbrev pub by_presence : Presence → Severity
-by_presence presence.Mandatory = severity.Mandatory
-by_presence presence.Conditional = severity.Conditional
-by_presence presence.Optional = severity.Clear
 
 -- given the entry's presence
 abbrev pub severity_by : DiagnosisKind → Presence → Severity

@@ -1,13 +1,13 @@
 // The diagnosis of a row, and how severe a diagnosis is.
 ghost use Rattle.std.specs.Prelude.{◌≡◌};
 ghost use Rattle.ie_walk.specs.Reading.{reads};
-ghost use Rattle.ie_report.specs.Diagnosing.{in_frame, of_row, diagnosis_of, by_presence, severity_of};
+ghost use Rattle.ie_report.specs.Diagnosing.{in_frame, of_row, diagnosis_of, severity_of};
 
 use crate::diagnosis::{Diagnosis, DiagnosisKind};
 use crate::judge::format_of;
 use crate::row::{Row, RowKind};
 use ie_catalogue::catalogue::Catalogue;
-use ie_catalogue::row::{Format, Presence};
+use ie_catalogue::row::Format;
 use ie_tally::severity::Severity;
 use ie_walk::faults::Placed;
 use ie_walk::reader::Reader;
@@ -56,16 +56,6 @@ pub(crate) fn diagnose<C: Catalogue, S: SkipRule>(
     }
 }
 
-fn presence_severity(presence: Presence) -> Severity
-    ensures { result ≡ by_presence presence }
-{
-    match presence {
-        Presence::Mandatory => Severity::Mandatory,
-        Presence::Conditional => Severity::Conditional,
-        Presence::Optional => Severity::Clear,
-    }
-}
-
 pub(crate) fn severity<C: Catalogue>(catalogue: &C, diagnosis: &Diagnosis) -> Severity
     ensures { result ≡ severity_of (C.Catalogue.entries catalogue.now) diagnosis.now }
 {
@@ -74,9 +64,8 @@ pub(crate) fn severity<C: Catalogue>(catalogue: &C, diagnosis: &Diagnosis) -> Se
         | DiagnosisKind::OutOfSequence
         | DiagnosisKind::MandatoryMissing => Severity::Mandatory,
         DiagnosisKind::ExpectedMissing | DiagnosisKind::ForbiddenPresent => Severity::Conditional,
-        DiagnosisKind::IllSized => match catalogue.entry(diagnosis.position) {
-            Some(entry) => presence_severity(entry.presence()),
-            None => Severity::Clear,
-        },
+        DiagnosisKind::IllSized => catalogue
+            .entry(diagnosis.position)
+            .map_or(Severity::Clear, |entry| Severity::from(entry.presence())),
     }
 }

@@ -6,16 +6,9 @@ ghost use Rattle.ie_tally.specs.Joining.{positions_laws};
 
 use crate::tally::Tally;
 
-#[derive(Clone, Copy, PartialEq, Eq, Debug)]
+#[derive(Clone, Copy, PartialEq, Eq, Default, Debug)]
 pub struct Positions {
     bits: u64,
-}
-
-// From the position on, more is left than its own bit. A function of its own, so that `has_above` needs no proof file.
-fn is_above(bits: u64, position: usize) -> bool
-    ensures { result ≡ has_above bits position }
-{
-    position < 64 && bits >> position > 1
 }
 
 impl Positions {
@@ -38,11 +31,12 @@ impl Positions {
         }
     }
 
-    // Whether the set has a position greater than this one.
+    // Whether the set has a position greater than this one: from it on, more is left than its own bit.
+    #[tactic(auto, using(crate::proofs::Above::above_is, crate::proofs::Above::none_above))]
     pub fn has_above(self, position: usize) -> bool
         ensures { result ≡ has_above self.bits position }
     {
-        is_above(self.bits, position)
+        position < 64 && self.bits >> position > 1
     }
 }
 
@@ -52,14 +46,10 @@ impl Tally for Positions {
 
     ghost joined = { union };
 
-    ghost left = { positions_laws.left };
-
-    ghost right = { positions_laws.right };
-
-    ghost assoc = { positions_laws.assoc };
+    ghost laws = { positions_laws };
 
     fn none() -> Positions {
-        Positions { bits: 0 }
+        Self::default()
     }
 
     fn join(self, other: Positions) -> Positions {

@@ -1,27 +1,38 @@
 // How severe the diagnoses of a message are.
 ghost use Rattle.std.specs.Prelude.{◌≡◌};
-ghost use Rattle.ie_tally.specs.Severities.{severity_number, clear, greater};
+ghost use Rattle.ie_tally.specs.Severities.{severity_number, clear, greater, by_presence};
 ghost use Rattle.ie_tally.specs.Joining.{severity_laws};
 
 use crate::tally::Tally;
+use ie_catalogue::row::Presence;
 
 // Nothing that matters; an error as of a conditional IE; an error as of a mandatory IE.
-#[derive(Clone, Copy, PartialEq, Eq, Debug)]
+#[derive(Clone, Copy, PartialEq, Eq, PartialOrd, Ord, Default, Debug)]
 pub enum Severity {
+    #[default]
     Clear,
     Conditional,
     Mandatory,
+}
+
+// That of an ill-sized IE, by the presence of its entry.
+impl From<Presence> for Severity {
+    ghost from_gives = { λ presence r. r ≡ by_presence presence };
+
+    fn from(presence: Presence) -> Severity {
+        match presence {
+            Presence::Mandatory => Severity::Mandatory,
+            Presence::Conditional => Severity::Conditional,
+            Presence::Optional => Severity::Clear,
+        }
+    }
 }
 
 impl Severity {
     pub fn number(self) -> u8
         ensures { result ≡ severity_number self }
     {
-        match self {
-            Severity::Clear => 0,
-            Severity::Conditional => 1,
-            Severity::Mandatory => 2,
-        }
+        self as u8
     }
 }
 
@@ -31,21 +42,13 @@ impl Tally for Severity {
 
     ghost joined = { greater };
 
-    ghost left = { severity_laws.left };
-
-    ghost right = { severity_laws.right };
-
-    ghost assoc = { severity_laws.assoc };
+    ghost laws = { severity_laws };
 
     fn none() -> Severity {
-        Self::Clear
+        Self::default()
     }
 
     fn join(self, other: Severity) -> Severity {
-        if self.number() < other.number() {
-            other
-        } else {
-            self
-        }
+        self.max(other)
     }
 }

@@ -5,7 +5,7 @@ ghost use Rattle.ie_tally.specs.Joining.{skipped_laws};
 
 use crate::tally::Tally;
 
-#[derive(Clone, Copy, PartialEq, Eq, Debug)]
+#[derive(Clone, Copy, PartialEq, Eq, Default, Debug)]
 pub struct Skipped {
     pub ies: u32,
     pub octets: u32,
@@ -17,14 +17,10 @@ impl Tally for Skipped {
 
     ghost joined = { sums };
 
-    ghost left = { skipped_laws.left };
-
-    ghost right = { skipped_laws.right };
-
-    ghost assoc = { skipped_laws.assoc };
+    ghost laws = { skipped_laws };
 
     fn none() -> Skipped {
-        Skipped { ies: 0, octets: 0 }
+        Self::default()
     }
 
     fn join(self, other: Skipped) -> Skipped

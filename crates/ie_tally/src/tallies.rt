@@ -9,22 +9,11 @@ use crate::severity::Severity;
 use crate::skipped::Skipped;
 use crate::tally::{Tally, fold};
 
-#[derive(Clone, Copy, PartialEq, Eq, Debug)]
+#[derive(Clone, Copy, PartialEq, Eq, Default, Debug)]
 pub struct Tallies {
     pub severity: Severity,
     pub taken: Positions,
     pub skipped: Skipped,
-}
-
-// Each of the three by the one fold.
-fn join_each(one: Tallies, other: Tallies) -> Tallies
-    ensures { result ≡ each_joined one other }
-{
-    Tallies {
-        severity: fold(&[one.severity, other.severity]),
-        taken: fold(&[one.taken, other.taken]),
-        skipped: fold(&[one.skipped, other.skipped]),
-    }
 }
 
 impl Tally for Tallies {
@@ -32,22 +21,18 @@ impl Tally for Tallies {
 
     ghost joined = { each_joined };
 
-    ghost left = { tallies_laws.left };
-
-    ghost right = { tallies_laws.right };
-
-    ghost assoc = { tallies_laws.assoc };
+    ghost laws = { tallies_laws };
 
     fn none() -> Tallies {
-        Tallies {
-            severity: Severity::none(),
-            taken: Positions::none(),
-            skipped: Skipped::none(),
-        }
+        Self::default()
     }
 
     fn join(self, other: Tallies) -> Tallies {
-        join_each(self, other)
+        Tallies {
+            severity: self.severity.join(other.severity),
+            taken: self.taken.join(other.taken),
+            skipped: self.skipped.join(other.skipped),
+        }
     }
 }
 

@@ -1,6 +1,7 @@
 // What a tally is, and the one fold that joins them.
 ghost use Rattle.std.specs.Prelude.{◌≡◌, List, ◌++◌};
 ghost use Rattle.ie_tally.specs.Totals.{total};
+ghost use Rattle.ie_tally.specs.Parted.{Laws};
 
 // Joining is associative, and has a neutral element.
 pub trait Tally: Sized {
@@ -14,29 +15,14 @@ pub trait Tally: Sized {
     fn join(self, other: Self) -> Self
         ensures { result ≡ joined self other };
 
-    ghost left: { (x : Self) → joined neutral x ≡ x };
-
-    ghost right: { (x : Self) → joined x neutral ≡ x };
-
-    ghost assoc: { (x y z : Self) → joined (joined x y) z ≡ joined x (joined y z) };
-}
-
-// One after the other.
-fn fold_all<T: Tally + Copy>(tallies: &[T]) -> T
-    ensures value { result ≡ total T.neutral T.joined tallies.now }
-    ensures parts { (xs ys : List T) → xs ++ ys ≡ tallies.now → result ≡ T.joined (total T.neutral T.joined xs) (total T.neutral T.joined ys) }
-{
-    let mut sum = T::none();
-    for one in tallies {
-        sum = sum.join(*one);
-    }
-    sum
+    ghost laws: { Laws neutral joined };
 }
 
 // The tally of all; wherever the list is parted, it is the join of the tallies of both parts.
+#[tactic(auto, using(crate::proofs::Folds::total_from_fold, crate::proofs::Folds::parts_from_fold))]
 pub fn fold<T: Tally + Copy>(tallies: &[T]) -> T
     ensures value { result ≡ total T.neutral T.joined tallies.now }
     ensures parts { (xs ys : List T) → xs ++ ys ≡ tallies.now → result ≡ T.joined (total T.neutral T.joined xs) (total T.neutral T.joined ys) }
 {
-    fold_all(tallies)
+    tallies.iter().copied().fold(T::none(), T::join)
 }

@@ -1,8 +1,8 @@
 // Octets as text, for the programs.
 #![tactic(auto)]
 
-ghost use Rattle.std.specs.Prelude.{◌≡◌, ◌<◌, [], ◌∷◌, Some, encode_utf8};
-ghost use Rattle.ie_text.specs.Hex.{hex_digit, hex_octet};
+ghost use Rattle.std.specs.Prelude.{Some};
+ghost use Rattle.ie_text.specs.Hex.{hex_octet};
 
 use std::fmt;
 
@@ -12,23 +12,10 @@ pub struct HexOctet(pub u8);
 impl fmt::Display for HexOctet {
     ghost output = { λ x. Some (hex_octet x.0) };
 
+    #[tactic(auto, using(std::proofs::lemmas::Fmt::hex_byte))]
     fn fmt<W: fmt::Write>(&self, f: &mut fmt::Formatter<W>) -> fmt::Result {
-        let high = hex_char(self.0 / 16);
-        let low = hex_char(self.0 % 16);
-        write!(f, "{high}{low}")
-    }
-}
-
-// The upper-case hexadecimal digit.
-fn hex_char(d: u8) -> char
-    requires { d < 16 }
-    ensures value { result ≡ hex_digit d }
-    ensures byte { encode_utf8 result ≡ hex_digit d ∷ [] }
-{
-    if d < 10 {
-        (b'0' + d) as char
-    } else {
-        (b'A' + (d - 10)) as char
+        let octet = self.0;
+        write!(f, "{octet:02X}")
     }
 }
 
