@@ -5,6 +5,7 @@
 --   format_in            an entry's format; the absent one has none
 --   State, fresh         what was met so far: how often each entry was taken, the positions that the order rule
 --                        admitted; nothing yet
+--   met                  the state that a Met means, given the meaning of its order rule
 --   kind_of              what a known IE meets, in this order: its limit, the order rule, the size of its value
 --   after                what is met then: a taken IE counts, and an ill-sized one was admitted all the same
 --   judge                the product's step: a known IE by its entry, a demanding one as unknown
@@ -21,6 +22,8 @@ use Rattle.ie_catalogue.specs.Sizes.{size_of}
 use Rattle.ie_walk.specs.Reading.{Kind, known, skippable, demanding}
 use Rattle.ie_walk.specs.Walks.{Found}
 use Rattle.ie_tally.specs.Sets.{with_position}
+use Rattle.ie_report.specs.declared.judge.Met.{Met}
+use Rattle.ie_report.specs.declared.order.OrderRule as order_rule
 use Rattle.ie_report.specs.declared.row.RowKind.{RowKind}
 use Rattle.ie_report.specs.declared.row.RowKind.TheVariants.{Taken, Surplus, OutOfSequence, IllSized, UnknownDemanding}
 use Rattle.ie_report.specs.Orders.{Order, lets_in}
@@ -52,6 +55,9 @@ pub record State : Type 0 where
 
 abbrev pub state : List ℕ → ℕ → State
 state times admitted = record { times = times; admitted = admitted }
+
+abbrev pub met : {O : Type 0} → order_rule.Ghosts O → Met O → State
+met O m = state m.times.times (O.admitted m.order.now)
 
 abbrev pub fresh : State
 fresh = state (replicate 64 0) 0

@@ -9,62 +9,56 @@ use ie_catalogue::row::{Presence, Test};
 use ie_tally::positions::Positions;
 use ie_walk::faults::Placed;
 
-// A test, given the imperative part and the entries taken.
-fn test_holds(test: Test, imperative: &[u8], taken: Positions) -> bool
-    ensures { result ≡ holds imperative.now taken.bits test }
-{
-    match test {
-        Test::Never => false,
-        Test::IfPresent(position) => taken.has(position as usize),
-        Test::IfAbsent(position) => !taken.has(position as usize),
-        Test::IfOctet { place, mask, value } => {
-            let at = place as usize;
-            at < imperative.len() && imperative[at] & mask == value
-        }
-    }
+// What the tests of entries ask about: the imperative part and the entries taken.
+#[derive(Clone, Copy)]
+pub struct Closing<'m> {
+    pub imperative: &'m [u8],
+    pub taken: Positions,
 }
 
-// What is wrong with an entry at the end, if anything.
-fn wrong_with(
-    entry: &Entry,
-    position: usize,
-    imperative: &[u8],
-    taken: Positions,
-) -> Option<DiagnosisKind>
-    ensures { result ≡ wrong_with imperative.now taken.bits position entry.now }
-{
-    let there = taken.has(position);
-    match entry.presence() {
-        Presence::Optional => None,
-        Presence::Mandatory if !there => Some(DiagnosisKind::MandatoryMissing),
-        Presence::Conditional if !there && test_holds(entry.expect(), imperative, taken) => {
-            Some(DiagnosisKind::ExpectedMissing)
+impl Closing<'_> {
+    fn holds(self, test: Test) -> bool
+        ensures { result ≡ holds self.entry.imperative.now self.entry.taken.bits test }
+    {
+        match test {
+            Test::Never => false,
+            Test::IfPresent(position) => self.taken.has(position as usize),
+            Test::IfAbsent(position) => !self.taken.has(position as usize),
+            Test::IfOctet { place, mask, value } => self
+                .imperative
+                .get(place as usize)
+                .is_some_and(|octet| *octet & mask == value),
         }
-        Presence::Conditional if there && test_holds(entry.forbid(), imperative, taken) => {
-            Some(DiagnosisKind::ForbiddenPresent)
-        }
-        _ => None,
     }
-}
 
-// The diagnosis of the entry at a position; a hidden entry has none.
-pub(crate) fn close(
-    entry: &Entry,
-    position: usize,
-    imperative: &[u8],
-    taken: Positions,
-) -> Option<Placed<Diagnosis>>
-    ensures { result ≡ option_map (at_position position) (wrong_with imperative.now taken.bits position entry.now) }
-{
-    match wrong_with(entry, position, imperative, taken) {
-        Some(kind) => Some(Placed {
+    // What is wrong with an entry at the end, if anything.
+    fn wrong_with(self, entry: &Entry, position: usize) -> Option<DiagnosisKind>
+        ensures { result ≡ wrong_with self.entry.imperative.now self.entry.taken.bits position entry.now }
+    {
+        let there = self.taken.has(position);
+        match entry.presence() {
+            Presence::Mandatory if !there => Some(DiagnosisKind::MandatoryMissing),
+            Presence::Conditional if !there && self.holds(entry.expect()) => {
+                Some(DiagnosisKind::ExpectedMissing)
+            }
+            Presence::Conditional if there && self.holds(entry.forbid()) => {
+                Some(DiagnosisKind::ForbiddenPresent)
+            }
+            _ => None,
+        }
+    }
+
+    // The diagnosis of the entry at a position; a hidden entry has none.
+    pub(crate) fn close(self, entry: &Entry, position: usize) -> Option<Placed<Diagnosis>>
+        ensures { result ≡ option_map (at_position position) (wrong_with self.entry.imperative.now self.entry.taken.bits position entry.now) }
+    {
+        self.wrong_with(entry, position).map(|kind| Placed {
             thing: Diagnosis {
                 kind,
                 position,
                 iei: 0,
             },
             place: 0,
-        }),
-        None => None,
+        })
     }
 }

@@ -5,30 +5,24 @@ ghost use Rattle.ie_report.specs.Numbers.{diagnosis_number};
 // The last three are of an entry, not of an IE that came.
 #[derive(Clone, Copy, PartialEq, Eq, Debug)]
 pub enum DiagnosisKind {
-    UnknownDemanding,
-    OutOfSequence,
-    IllSized,
-    MandatoryMissing,
-    ExpectedMissing,
-    ForbiddenPresent,
+    UnknownDemanding = 1,
+    OutOfSequence = 2,
+    IllSized = 3,
+    MandatoryMissing = 4,
+    ExpectedMissing = 5,
+    ForbiddenPresent = 6,
 }
 
 impl DiagnosisKind {
     pub fn number(self) -> u8
         ensures { result ≡ diagnosis_number self }
     {
-        match self {
-            DiagnosisKind::UnknownDemanding => 1,
-            DiagnosisKind::OutOfSequence => 2,
-            DiagnosisKind::IllSized => 3,
-            DiagnosisKind::MandatoryMissing => 4,
-            DiagnosisKind::ExpectedMissing => 5,
-            DiagnosisKind::ForbiddenPresent => 6,
-        }
+        self as u8
     }
 }
 
-// `position` is 64 where no entry is designated; the IEI octet of a diagnosis of an entry is 0, and so is its place.
+// A plain record of numbers, as a row is: `position` is 64 where no entry is designated; the IEI octet of a diagnosis
+// of an entry is 0, and so is its place.
 #[derive(Clone, Copy, PartialEq, Eq, Debug)]
 pub struct Diagnosis {
     pub kind: DiagnosisKind,

@@ -1,38 +1,16 @@
 // The free order: every position is always in.
-ghost use Rattle.std.specs.Prelude.{◌≡◌};
-ghost use Rattle.ie_tally.specs.Unions.{no_positions};
 ghost use Rattle.ie_report.specs.Orders.{free};
 
-use crate::order::OrderRule;
+use crate::ordered::Decision;
 use ie_tally::positions::Positions;
-use ie_tally::tally::Tally;
 
-#[derive(Drop)]
-pub struct Free {
-    admitted: Positions,
-}
+#[derive(Clone, Copy)]
+pub struct Free;
 
-impl Free {
-    pub fn new() -> Free
-        ensures { result.admitted ≡ no_positions }
-    {
-        Free {
-            admitted: Positions::none(),
-        }
-    }
-}
-
-impl OrderRule for Free {
-    ghost admitted = { λ rule. rule.admitted.bits };
-
+impl Decision for Free {
     ghost admits = { λ _. free };
 
-    fn reset(&mut self) {
-        self.admitted = Positions::none();
-    }
-
-    fn offer(&mut self, position: usize) -> bool {
-        self.admitted = self.admitted.with(position);
-        position < 64
+    fn admits(&self, _admitted: Positions, _position: usize) -> bool {
+        true
     }
 }

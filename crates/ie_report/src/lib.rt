@@ -8,6 +8,7 @@ pub mod free;
 mod judge;
 pub mod listed;
 pub mod order;
+pub mod ordered;
 pub mod refusal;
 pub mod row;
 pub mod summary;

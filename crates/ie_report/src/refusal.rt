@@ -22,6 +22,7 @@ impl From<MessageFault> for ReportRefusal {
 }
 
 impl ReportRefusal {
+    // No cast, since one case holds a fault, which has a number of its own.
     pub fn number(self) -> u8
         ensures { result ≡ (report_refusal self).number }
     {

@@ -1,5 +1,5 @@
 // What a report says of one IE.
-ghost use Rattle.std.specs.Prelude.{◌≡◌, take, drop};
+ghost use Rattle.std.specs.Prelude.{◌≡◌};
 ghost use Rattle.ie_report.specs.Numbers.{row_number};
 ghost use Rattle.ie_report.specs.Rows.{value_of, taken_by};
 
@@ -9,29 +9,24 @@ use ie_tally::tally::Tally;
 // What became of the IE.
 #[derive(Clone, Copy, PartialEq, Eq, Debug)]
 pub enum RowKind {
-    Taken,
-    Surplus,
-    OutOfSequence,
-    IllSized,
-    UnknownDemanding,
+    Taken = 1,
+    Surplus = 2,
+    OutOfSequence = 3,
+    IllSized = 4,
+    UnknownDemanding = 5,
 }
 
 impl RowKind {
     pub fn number(self) -> u8
         ensures { result ≡ row_number self }
     {
-        match self {
-            RowKind::Taken => 1,
-            RowKind::Surplus => 2,
-            RowKind::OutOfSequence => 3,
-            RowKind::IllSized => 4,
-            RowKind::UnknownDemanding => 5,
-        }
+        self as u8
     }
 }
 
-// `position` is 64 where no entry is designated. The value's place is the one behind the head, also where the value
-// is empty. `half` is the value of format 1, and 0 for all others.
+// A plain record of numbers, which other programs read: so `position` is 64 where no entry is designated, and no
+// `Option`. The value's place is the one behind the head, also where the value is empty. `half` is the value of
+// format 1, and 0 for all others.
 #[derive(Clone, Copy, PartialEq, Eq, Debug)]
 pub struct Row {
     pub kind: RowKind,
@@ -44,22 +39,13 @@ pub struct Row {
     pub half: u8,
 }
 
-// So many octets from a place on, as far as the message has them.
-fn part(message: &[u8], place: usize, length: usize) -> &[u8]
-    ensures { result.now ≡ take length (drop place message.now) }
-{
-    let from = place.min(message.len());
-    let rest = &message[from..];
-    let size = length.min(rest.len());
-    &rest[0..size]
-}
-
 impl Row {
     // The value's octets in the row's message; of any other message, what stands at their places.
     pub fn value<'m>(&self, message: &'m [u8]) -> &'m [u8]
         ensures { result.now ≡ value_of self.now message.now }
     {
-        part(message, self.value_place, self.value_length)
+        let rest = message.get(self.value_place..).unwrap_or_default();
+        rest.get(..self.value_length).unwrap_or(rest)
     }
 
     // The position that the row takes, if it takes one.

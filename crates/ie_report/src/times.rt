@@ -16,18 +16,15 @@ impl TimesTaken {
     pub(crate) fn of(&self, position: usize) -> u8
         ensures { result ≡ slice_index self.now.times position }
     {
-        if position < 64 {
-            self.times[position]
-        } else {
-            0
-        }
+        self.times.get(position).copied().unwrap_or_default()
     }
 
     pub(crate) fn add(&mut self, position: usize)
         requires { slice_index self.old.times position < 255 }
         ensures { self.new.times ≡ slice_set self.old.times position (slice_index self.old.times position + 1) }
     {
-        if position < 64 {
+        // Not `get_mut`: what a write through a slice's does to the table is not known afterwards.
+        if position < self.times.len() {
             self.times[position] += 1;
         }
     }

@@ -1,5 +1,4 @@
 pub mod Cutting
-pub mod Stepping
 pub mod Running
 pub mod Dividing
 pub mod Laying

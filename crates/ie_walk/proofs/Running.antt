@@ -5,13 +5,10 @@ use Rattle.std.proofs.lemmas.List.{drop-drop}
 use Rattle.ie_walk.specs.declared.cut.Shape.{Shape}
 use Rattle.ie_walk.specs.declared.cut.Shape.TheVariants.{Fixed, Tlv, TlvE}
 use Rattle.ie_walk.specs.Cuts.{head, length_of_value, needed, cut_of}
-use Rattle.ie_walk.specs.declared.skip.Frame.{Frame}
-use Rattle.ie_walk.specs.declared.walk.Walk.{Walk}
 use Rattle.ie_catalogue.specs.Refusals.{Refusal}
-use Rattle.ie_catalogue.specs.declared.entry.Entry.{Entry}
 use Rattle.ie_walk.specs.Reading.{Reading, Kind, shape, kind}
 use Rattle.ie_walk.specs.Walks.{Found, stepped, moved, found_as, part_of}
-use Rattle.ie_walk.specs.Runs.{run, onward, at_end, after_token, ended_by, walked, reads, left, resumed, moved_to, Onward}
+use Rattle.ie_walk.specs.Runs.{run, onward, at_end, after_token, ended_by, walked, resumed, Onward}
 
 pub head_some : (s : Shape) → 0 < head s
 head_some (Fixed n) = omega arith
@@ -70,20 +67,20 @@ run_short R p (o ∷ os) x e = ap (λ s. onward s (λ k. run R (p + 1) k os)) e
 pub walked_more : (R : Reading) (m : List ℕ) (p : ℕ) (f : Found) → stepped R p (drop p m) ≡ Ok (Some f) → walked R m p ≡ after_token f (walked R m (p + length f.part.whole))
 walked_more R m p f e = run_more R p (drop p m) f e ∙ ap (λ os. after_token f (run R (p + length f.part.whole) 0 os)) (drop-drop (length f.part.whole) p m)
 
--- what a step does to what is ahead of a walk
-module _ {C S : Type 0} (entries : C → List Entry) (framed : S → ℕ → Frame) (demands : S → ℕ → Bool) (w : Walk C S) where
+-- what a step at place p of message m does to what is ahead
+module _ (R : Reading) (m : List ℕ) (p : ℕ) where
   abbrev pub Step : Result (Option Found) Refusal → Type 0
-  Step s = s ≡ stepped (reads entries framed demands w) w.place (drop w.place w.message.now)
+  Step s = s ≡ stepped R p (drop p m)
 
-  pub rest_from : (s : Result (Option Found) Refusal) → Step s → left entries framed demands w ≡ resumed s (left entries framed demands (moved_to w (moved w.place s)))
-  rest_from (Ok (Some f)) e = walked_more (reads entries framed demands w) w.message.now w.place f (sym e)
-  rest_from (Ok None) e = run_none (reads entries framed demands w) w.place (drop w.place w.message.now) (sym e)
-  rest_from (Err x) e = run_short (reads entries framed demands w) w.place (drop w.place w.message.now) x (sym e)
+  pub rest_from : (s : Result (Option Found) Refusal) → Step s → walked R m p ≡ resumed s (walked R m (moved p s))
+  rest_from (Ok (Some f)) e = walked_more R m p f (sym e)
+  rest_from (Ok None) e = run_none R p (drop p m) (sym e)
+  rest_from (Err x) e = run_short R p (drop p m) x (sym e)
 
-  pub onward_from : (s : Result (Option Found) Refusal) → Step s → Onward s w (moved_to w (moved w.place s))
+  pub onward_from : (s : Result (Option Found) Refusal) → Step s → Onward s m p (moved p s)
   onward_from (Ok (Some f)) e =
-      let size = step_size (reads entries framed demands w) w.place (drop w.place w.message.now) f (sym e) in
-      let long = length-drop w.place w.message.now in
+      let size = step_size R p (drop p m) f (sym e) in
+      let long = length-drop p m in
       (size.2, omega (arith, size.0), refl, omega (arith, size.0, size.1, long))
   onward_from (Ok None) e = tt
   onward_from (Err x) e = tt

@@ -1,17 +1,21 @@
 -- The whole walk.
 --   Run       the tokens of a walk, and the fault that ended it, if one did
 --   walked    the walk over a message whose imperative part ends at `end`
---   reads     what a walk's catalogue and skip rule say of each octet
+--   standing  all that a walk is, but for its invariant; what is borrowed is the borrow itself
+--   begun     the answer of a walk's start, a refusal by its number and values
 --   left      what is ahead of a walk
 --   resumed   a step's outcome, before what is ahead after it
---   moved_to  the walk at another place, and else the same
 --   Onward    a token moves the place on, and not past the end
-use Rattle.std.specs.Prelude.{◌≡◌, ℕ, zero, suc, ◌+◌, ◌-◌, ◌<◌, ◌≤◌, Bool, List, [], ◌∷◌, length, drop, Some, None, Ok, Err, Option, Result}
+use Rattle.std.specs.Prelude.{◌≡◌, ℕ, zero, suc, ◌+◌, ◌-◌, ◌<◌, ◌≤◌, List, [], ◌∷◌, length, drop, Some, None, Ok, Err, Option, Result}
 use Rattle.ie_catalogue.specs.Refusals.{Refusal}
-use Rattle.ie_catalogue.specs.declared.entry.Entry.{Entry}
-use Rattle.ie_walk.specs.declared.skip.Frame.{Frame}
+use Rattle.std.specs.Borrow.{Bor}
+use Rattle.ie_catalogue.specs.declared.catalogue.Catalogue as catalogue
+use Rattle.ie_walk.specs.declared.faults.MessageFault.{MessageFault}
+use Rattle.ie_walk.specs.declared.reader.Reader.{Reader}
+use Rattle.ie_walk.specs.declared.skip.SkipRule as skip_rule
 use Rattle.ie_walk.specs.declared.walk.Walk.{Walk}
-use Rattle.ie_walk.specs.Reading.{Reading, reading}
+use Rattle.ie_walk.specs.Faults.{message_refusal}
+use Rattle.ie_walk.specs.Reading.{Reading, reads}
 use Rattle.ie_walk.specs.Walks.{Found, stepped}
 
 pub record Run : Type 0 where
@@ -42,21 +46,26 @@ run R p zero (o ∷ os) = onward (stepped R p (o ∷ os)) (λ k. run R (p + 1) k
 abbrev pub walked : Reading → List ℕ → ℕ → Run
 walked R m end = run R end 0 (drop end m)
 
-abbrev pub reads : {C S : Type 0} → (C → List Entry) → (S → ℕ → Frame) → (S → ℕ → Bool) → Walk C S → Reading
-reads entries framed demands w = reading (entries w.catalogue.now) (framed w.rule.now) (demands w.rule.now)
+abbrev pub Standing : Type 0 → Type 0 → Type 0
+Standing C S = Bor (List ℕ) × ℕ × Reader C S
 
-abbrev pub left : {C S : Type 0} → (C → List Entry) → (S → ℕ → Frame) → (S → ℕ → Bool) → Walk C S → Run
-left entries framed demands w = walked (reads entries framed demands w) w.message.now w.place
+abbrev pub standing : {C S : Type 0} → Walk C S → Standing C S
+standing w = (w.message, w.place, w.reader)
+
+abbrev pub begun : {C S : Type 0} → Result (Walk C S) MessageFault → Result (Standing C S) Refusal
+begun (Ok w) = Ok (standing w)
+begun (Err e) = Err (message_refusal e)
+
+abbrev pub left : {C S : Type 0} → catalogue.Ghosts C → skip_rule.Ghosts S → Walk C S → Run
+left C S w = walked (reads C S w.reader) w.message.now w.place
 
 abbrev pub resumed : Result (Option Found) Refusal → Run → Run
 resumed (Ok (Some f)) r = after_token f r
 resumed (Ok None) r = at_end
 resumed (Err e) r = ended_by e
 
-abbrev pub moved_to : {C S : Type 0} → Walk C S → ℕ → Walk C S
-moved_to w p = record { message = w.message; place = p; catalogue = w.catalogue; rule = w.rule }
-
-abbrev pub Onward : {C S : Type 0} → Result (Option Found) Refusal → Walk C S → Walk C S → Type 0
-Onward (Ok (Some f)) w w' = (f.part.place ≡ w.place) × (w.place < w'.place) × (w'.place ≡ w.place + length f.part.whole) × (w'.place ≤ length w.message.now)
-Onward (Ok None) w w' = Unit {0}
-Onward (Err e) w w' = Unit {0}
+-- from place p of message m to place q
+abbrev pub Onward : Result (Option Found) Refusal → List ℕ → ℕ → ℕ → Type 0
+Onward (Ok (Some f)) m p q = (f.part.place ≡ p) × (p < q) × (q ≡ p + length f.part.whole) × (q ≤ length m)
+Onward (Ok None) m p q = Unit {0}
+Onward (Err e) m p q = Unit {0}

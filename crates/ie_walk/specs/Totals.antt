@@ -6,9 +6,9 @@
 use Rattle.std.specs.Prelude.{◌≡◌, ℕ, ◌+◌, ◌≤◌, List, [], ◌∷◌, length, Ok, Err, Option, Result}
 use Rattle.std.specs.Option.{option_map}
 use Rattle.ie_catalogue.specs.Refusals.{Refusal}
-use Rattle.ie_walk.specs.declared.divide.Count.{Count}
-use Rattle.ie_walk.specs.declared.divide.Totals.{Totals}
-use Rattle.ie_walk.specs.declared.divide.Division.{Division}
+use Rattle.ie_walk.specs.declared.division.Count.{Count}
+use Rattle.ie_walk.specs.declared.division.Totals.{Totals}
+use Rattle.ie_walk.specs.declared.division.Division.{Division}
 use Rattle.ie_walk.specs.declared.faults.IeFault.{IeFault}
 use Rattle.ie_walk.specs.declared.faults.Placed.{Placed}
 use Rattle.ie_walk.specs.declared.faults.MessageFault.{MessageFault}
@@ -67,6 +67,6 @@ pub record Divided (R : Reading) (m : List ℕ) (end : ℕ) (d : Division) : Typ
   pub all_ies : ies_of d.totals ≡ length division.ies
   pub all_octets : octets_of d.totals ≡ length (end_to_end division.ies)
 
--- no number in the totals is above n
+-- no sum of the totals, and so no number in them, is above n
 abbrev pub Within : Totals → ℕ → Type 0
-Within t n = (t.known.ies ≤ n) × (t.known.octets ≤ n) × (t.skippable.ies ≤ n) × (t.skippable.octets ≤ n) × (t.demanding.ies ≤ n) × (t.demanding.octets ≤ n)
+Within t n = (ies_of t ≤ n) × (octets_of t ≤ n)

@@ -1,6 +1,5 @@
 // One IE, cut from the front of the octets that are left.
-ghost use Rattle.std.specs.Prelude.{◌≡◌, ◌+◌, ◌<◌, ◌≤◌, length, drop};
-ghost use Rattle.ie_walk.specs.Cuts.{needed, head, cut_of, cut_meaning};
+ghost use Rattle.std.specs.Prelude.{◌≡◌, ◌+◌, ◌<◌, ◌≤◌, length, drop, IfOk};
 ghost use Rattle.ie_walk.specs.Shapes.{entry_shape, frame_shape};
 
 use crate::faults::OctetFault;
@@ -20,76 +19,90 @@ pub enum Shape {
 pub struct Cut<'m> {
     pub whole: &'m [u8],
     pub value: &'m [u8],
+    pub ghost holds: { length value.now ≤ length whole.now },
 }
 
-pub(crate) fn shape_of_entry(entry: &Entry) -> Shape
-    ensures { result ≡ entry_shape entry.now }
-{
-    match entry.row() {
-        Some(row) => match row.format {
-            Format::TvHalf | Format::T => Shape::Fixed(0),
-            Format::Tv => Shape::Fixed(row.least),
-            Format::Tlv => Shape::Tlv,
-            Format::TlvE => Shape::TlvE,
-        },
-        None => Shape::Fixed(0),
+impl From<&Entry> for Shape {
+    ghost from_gives = { λ entry shape. shape ≡ entry_shape entry.now };
+
+    fn from(entry: &Entry) -> Shape {
+        match entry.row() {
+            Some(row) => match row.format {
+                Format::TvHalf | Format::T => Shape::Fixed(0),
+                Format::Tv => Shape::Fixed(row.least),
+                Format::Tlv => Shape::Tlv,
+                Format::TlvE => Shape::TlvE,
+            },
+            None => Shape::Fixed(0),
+        }
     }
 }
 
-pub(crate) fn shape_of_frame(frame: Frame) -> Shape
-    ensures { result ≡ frame_shape frame }
-{
-    match frame {
-        Frame::OneOctet => Shape::Fixed(0),
-        Frame::Tlv => Shape::Tlv,
-        Frame::TlvE => Shape::TlvE,
+impl From<Frame> for Shape {
+    ghost from_gives = { λ frame shape. shape ≡ frame_shape frame };
+
+    fn from(frame: Frame) -> Shape {
+        match frame {
+            Frame::OneOctet => Shape::Fixed(0),
+            Frame::Tlv => Shape::Tlv,
+            Frame::TlvE => Shape::TlvE,
+        }
     }
 }
 
-// The value of `size` octets after a head of `head` octets.
-fn measured<'m>(
-    octets: &'m [u8],
-    head: usize,
-    rest: &'m [u8],
-    size: usize,
-) -> Result<Cut<'m>, OctetFault>
-    requires after { rest.now ≡ drop head octets.now }
-    requires within { head ≤ length octets.now }
-    requires small { head + size < 65540 }
-    ensures { cut_meaning result ≡ cut_of octets.now head (head + size) }
-{
-    if size <= rest.len() {
-        Ok(Cut {
-            whole: &octets[0..head + size],
-            value: &rest[0..size],
-        })
-    } else {
-        Err(OctetFault {
-            needed: head + size,
+impl<'m> Cut<'m> {
+    ghost use Rattle.ie_walk.specs.Cuts.{cut_of, cut_meaning};
+
+    // The value of `size` octets after a head of `head` octets.
+    fn measured(
+        octets: &'m [u8],
+        head: usize,
+        rest: &'m [u8],
+        size: usize,
+    ) -> Result<Cut<'m>, OctetFault>
+        requires after { rest.now ≡ drop head octets.now }
+        requires within { head ≤ length octets.now }
+        requires small { head + size < 65540 }
+        ensures value { cut_meaning result ≡ cut_of octets.now head (head + size) }
+        ensures within { IfOk result (λ cut. length cut.whole.now ≤ length octets.now) }
+    {
+        let needed = head + size;
+        let value = rest.get(..size).ok_or(OctetFault {
+            needed,
             at_hand: octets.len(),
+        })?;
+        Ok(Cut {
+            whole: &octets[..needed],
+            value,
         })
     }
 }
 
-// The IE at the front of `octets`, whose first is its IEI.
-pub(crate) fn first_ie<'m>(shape: Shape, octets: &'m [u8]) -> Result<Cut<'m>, OctetFault>
-    ensures { cut_meaning result ≡ cut_of octets.now (head shape) (needed shape octets.now) }
-{
-    let at_hand = octets.len();
-    match shape {
-        Shape::Fixed(size) => match octets {
-            [_iei, rest @ ..] => measured(octets, 1, rest, size as usize),
-            _ => Err(OctetFault { needed: 1, at_hand }),
-        },
-        Shape::Tlv => match octets {
-            [_iei, size, rest @ ..] => measured(octets, 2, rest, *size as usize),
-            _ => Err(OctetFault { needed: 2, at_hand }),
-        },
-        Shape::TlvE => match octets {
-            [_iei, high, low, rest @ ..] => {
-                measured(octets, 3, rest, *high as usize * 256 + *low as usize)
-            }
-            _ => Err(OctetFault { needed: 3, at_hand }),
-        },
+impl Shape {
+    ghost use Rattle.ie_walk.specs.Cuts.{needed, head, cut_of, cut_meaning};
+
+    // The IE at the front of `octets`, whose first is its IEI.
+    pub(crate) fn first_ie<'m>(self, octets: &'m [u8]) -> Result<Cut<'m>, OctetFault>
+        ensures value { cut_meaning result ≡ cut_of octets.now (head self) (needed self octets.now) }
+        ensures within { IfOk result (λ cut. length cut.whole.now ≤ length octets.now) }
+    {
+        let at_hand = octets.len();
+        match self {
+            Shape::Fixed(size) => match octets {
+                [_iei, rest @ ..] => Cut::measured(octets, 1, rest, size as usize),
+                _ => Err(OctetFault { needed: 1, at_hand }),
+            },
+            Shape::Tlv => match octets {
+                [_iei, size, rest @ ..] => Cut::measured(octets, 2, rest, *size as usize),
+                _ => Err(OctetFault { needed: 2, at_hand }),
+            },
+            Shape::TlvE => match octets {
+                [_iei, high, low, rest @ ..] => {
+                    let size = u16::from_be_bytes([*high, *low]);
+                    Cut::measured(octets, 3, rest, size as usize)
+                }
+                _ => Err(OctetFault { needed: 3, at_hand }),
+            },
+        }
     }
 }

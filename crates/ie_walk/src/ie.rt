@@ -1,6 +1,5 @@
 // An information element as parts of the message that it stands in.
-ghost use Rattle.std.specs.Prelude.{◌≡◌};
-ghost use Rattle.ie_walk.specs.Walks.{ie_in};
+ghost use Rattle.std.specs.Prelude.{◌≡◌, ◌+◌, ◌≤◌, length};
 
 // `whole` is all its octets, the IEI first; `value` is what follows the IEI and the length octets.
 #[derive(Clone, Copy)]
@@ -9,6 +8,8 @@ pub struct Ie<'m> {
     pub place: usize,
     pub whole: &'m [u8],
     pub value: &'m [u8],
+    pub ghost within: { place + length whole.now ≤ 65535 },
+    pub ghost holds: { length value.now ≤ length whole.now },
 }
 
 // What a step gives: an IE that the catalogue knows at a position, or an unknown one.
@@ -20,13 +21,13 @@ pub enum Token<'m> {
 }
 
 impl<'m> Token<'m> {
+    ghost use Rattle.ie_walk.specs.Walks.{ie_in};
+
     pub fn ie(self) -> Ie<'m>
         ensures { result ≡ ie_in self.entry }
     {
         match self {
-            Token::Known { position: _, ie } => ie,
-            Token::Skippable(ie) => ie,
-            Token::Demanding(ie) => ie,
+            Token::Known { ie, .. } | Token::Skippable(ie) | Token::Demanding(ie) => ie,
         }
     }
 }

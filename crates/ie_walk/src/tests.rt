@@ -5,6 +5,8 @@ use crate::eps::Eps;
 use crate::faults::{IeFault, MessageFault, OctetFault, Placed};
 use crate::five_gs::FiveGs;
 use crate::ie::Token;
+use crate::message::Message;
+use crate::reader::Reader;
 use crate::walk::Walk;
 use ie_catalogue::catalogue::Catalogue;
 use ie_catalogue::direction::Link;
@@ -31,8 +33,16 @@ fn row(iei: u8, format: Format, length: u16, release: u8) -> EntryRow {
     }
 }
 
-fn refusal<C: Catalogue>(catalogue: &C, message: &[u8], imperative_end: usize) -> u8 {
-    match divide(catalogue, &FiveGs, message, imperative_end) {
+fn refusal<C: Catalogue>(catalogue: &C, octets: &[u8], imperative_end: usize) -> u8 {
+    let reader = Reader {
+        catalogue,
+        rule: &FiveGs,
+    };
+    let message = Message {
+        octets,
+        imperative_end,
+    };
+    match divide(reader, message) {
         Ok(_) => 0,
         Err(fault) => fault.number(),
     }
@@ -52,7 +62,15 @@ fn starting(rt: HostRuntime) -> Result<(), Fail> {
 fn truncated_again_and_again(rt: HostRuntime) -> Result<(), Fail> {
     let rows = [row(0x12, Format::Tv, 1, 15)];
     let catalogue = LentRows::lend(&rows)?;
-    let mut walk = Walk::start(&catalogue, &FiveGs, &[0x80, 0x12], 0)?;
+    let reader = Reader {
+        catalogue: &catalogue,
+        rule: &FiveGs,
+    };
+    let message = Message {
+        octets: &[0x80, 0x12],
+        imperative_end: 0,
+    };
+    let mut walk = Walk::start(reader, message)?;
     let fault = MessageFault::Truncated(Placed {
         thing: IeFault {
             iei: 0x12,
@@ -85,14 +103,21 @@ fn under_a_pile_of_layers(rt: HostRuntime) -> Result<(), Fail> {
         hidden: Link::Up,
     };
     let rule = Comprehension { below: Eps };
-    let message = [0x7e, 0x25, 0x02, 0x0f, 0x01, 0x33, 0x72, 0x00, 0x91];
-    let mut walk = Walk::start(&view, &rule, &message, 1)?;
+    let reader = Reader {
+        catalogue: &view,
+        rule: &rule,
+    };
+    let message = Message {
+        octets: &[0x7e, 0x25, 0x02, 0x0f, 0x01, 0x33, 0x72, 0x00, 0x91],
+        imperative_end: 1,
+    };
+    let mut walk = Walk::start(reader, message)?;
     let Some(Token::Known { position, ie }) = walk.step()? else {
         return Err(Fail::new("25 is known"));
     };
     assert_eq!(rt; position, 1);
     assert_eq!(rt; ie.value, [0x02].as_slice());
-    let totals = divide(&view, &rule, &message, 1)?.totals;
+    let totals = divide(reader, message)?.totals;
     assert_eq!(rt; totals.known.octets, 2);
     assert_eq!(rt; totals.demanding.octets, 3);
     assert_eq!(rt; totals.skippable.ies, 2);

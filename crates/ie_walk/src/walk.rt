@@ -1,17 +1,17 @@
 // The walk: from the imperative end to the message's end, one IE a step.
-ghost use Rattle.std.specs.Prelude.{◌≡◌, drop};
-ghost use Rattle.ie_catalogue.specs.Refusals.{answered};
-ghost use Rattle.ie_walk.specs.Faults.{message_refusal, starting};
-ghost use Rattle.ie_walk.specs.Reading.{shaped, sorted};
-ghost use Rattle.ie_walk.specs.Walks.{ie_of, part_in_result, outcome, stepped, moved, found, found_in, part_in};
-ghost use Rattle.ie_walk.specs.Runs.{reads, left, resumed, moved_to, Onward};
+ghost use Rattle.std.specs.Prelude.{◌≡◌, ◌+◌, ◌≤◌, length, drop};
+ghost use Rattle.ie_walk.specs.Faults.{starting};
+ghost use Rattle.ie_walk.specs.Reading.{reads};
+ghost use Rattle.ie_walk.specs.Walks.{ie_of, part_in_result, outcome, stepped, moved};
 
-use crate::cut::{Shape, first_ie, shape_of_entry, shape_of_frame};
+use crate::cut::Shape;
 use crate::faults::{IeFault, MessageFault, Placed};
 use crate::ie::{Ie, Token};
+use crate::message::Message;
+use crate::reader::Reader;
 use crate::skip::SkipRule;
 use ie_catalogue::catalogue::Catalogue;
-use ie_catalogue::search::{Designated, find};
+use ie_catalogue::search::find;
 
 // The IE at the front of `octets`, which begin at `place` with its IEI.
 fn ie_at<'m>(
@@ -20,107 +20,79 @@ fn ie_at<'m>(
     place: usize,
     octets: &'m [u8],
 ) -> Result<Ie<'m>, Placed<IeFault>>
+    requires { place + length octets.now ≤ 65535 }
     ensures { part_in_result result ≡ ie_of shape iei place octets.now }
 {
-    match first_ie(shape, octets) {
-        Ok(cut) => Ok(Ie {
-            iei,
-            place,
-            whole: cut.whole,
-            value: cut.value,
-        }),
-        Err(octets) => Err(Placed {
-            thing: IeFault { iei, octets },
-            place,
-        }),
-    }
-}
-
-// A known octet is framed by its entry, an unknown one by the skip rule.
-fn shape_of<S: SkipRule>(designated: Option<Designated>, rule: &S, octet: u8) -> Shape
-    ensures { result ≡ shaped designated (S.SkipRule.framed rule.now octet) }
-{
-    match designated {
-        Some(known) => shape_of_entry(&known.entry),
-        None => shape_of_frame(rule.frame(octet)),
-    }
-}
-
-fn token_of<'m, S: SkipRule>(designated: Option<Designated>, rule: &S, ie: Ie<'m>) -> Token<'m>
-    ensures { found_in result ≡ found (sorted designated (S.SkipRule.demands rule.now ie.entry.iei)) (part_in ie.entry) }
-{
-    match designated {
-        Some(known) => Token::Known {
-            position: known.position,
-            ie,
-        },
-        None => {
-            if rule.demanding(ie.iei) {
-                Token::Demanding(ie)
-            } else {
-                Token::Skippable(ie)
-            }
-        }
-    }
+    let cut = shape.first_ie(octets).map_err(|octets| Placed {
+        thing: IeFault { iei, octets },
+        place,
+    })?;
+    Ok(Ie {
+        iei,
+        place,
+        whole: cut.whole,
+        value: cut.value,
+    })
 }
 
 #[derive(Drop)]
-pub struct Walk<'m, 'c, 'r, C, S> {
+pub struct Walk<'m, 'a, C, S> {
     message: &'m [u8],
     place: usize,
-    catalogue: &'c C,
-    rule: &'r S,
+    reader: Reader<'a, C, S>,
+    ghost short: { length message.now ≤ 65535 },
+    ghost within: { place ≤ length message.now },
 }
 
-impl<'m, 'c, 'r, C: Catalogue, S: SkipRule> Walk<'m, 'c, 'r, C, S> {
+impl<'m, 'a, C: Catalogue, S: SkipRule> Walk<'m, 'a, C, S> {
+    ghost use Rattle.ie_walk.specs.Runs.{walked, left, resumed, standing, begun, Onward};
+
     // Refusal 1 for a message of more than 65,535 octets, 2 for an imperative end beyond it.
     pub fn start(
-        catalogue: &'c C,
-        rule: &'r S,
-        message: &'m [u8],
-        imperative_end: usize,
-    ) -> Result<Walk<'m, 'c, 'r, C, S>, MessageFault>
-        ensures { answered message_refusal result ≡ starting message.entry.now imperative_end (record { message = message.entry; place = imperative_end; catalogue = catalogue.entry; rule = rule.entry }) }
+        reader: Reader<'a, C, S>,
+        message: Message<'m>,
+    ) -> Result<Walk<'m, 'a, C, S>, MessageFault>
+        ensures { begun result ≡ starting message.entry.octets.now message.entry.imperative_end (message.entry.octets, message.entry.imperative_end, reader.entry) }
     {
-        if message.len() > 65535 {
+        let Message {
+            octets,
+            imperative_end,
+        } = message;
+        if octets.len() > 65535 {
             return Err(MessageFault::TooLong);
         }
-        if imperative_end > message.len() {
+        if imperative_end > octets.len() {
             return Err(MessageFault::ImperativeEndBeyond);
         }
         Ok(Walk {
-            message,
+            message: octets,
             place: imperative_end,
-            catalogue,
-            rule,
+            reader,
         })
     }
 
     // What stands at the walk's place, which it keeps.
     fn ahead(&self) -> Result<Option<Token<'m>>, MessageFault>
-        ensures value { outcome result ≡ stepped (reads C.Catalogue.entries S.SkipRule.framed S.SkipRule.demands self.now) self.now.place (drop self.now.place self.now.message.now) }
-        ensures rest { left C.Catalogue.entries S.SkipRule.framed S.SkipRule.demands self.now ≡ resumed (outcome result) (left C.Catalogue.entries S.SkipRule.framed S.SkipRule.demands (moved_to self.now (moved self.now.place (outcome result)))) }
-        ensures onward { Onward (outcome result) self.now (moved_to self.now (moved self.now.place (outcome result))) }
+        ensures value { outcome result ≡ stepped (reads C.Catalogue S.SkipRule self.now.reader) self.now.place (drop self.now.place self.now.message.now) }
+        ensures rest { left C.Catalogue S.SkipRule self.now ≡ resumed (outcome result) (walked (reads C.Catalogue S.SkipRule self.now.reader) self.now.message.now (moved self.now.place (outcome result))) }
+        ensures onward { Onward (outcome result) self.now.message.now self.now.place (moved self.now.place (outcome result)) }
     {
-        if self.place >= self.message.len() {
-            return Ok(None);
-        }
         let octets = &self.message[self.place..];
         let [iei, ..] = octets else {
             return Ok(None);
         };
-        let designated = find(self.catalogue, *iei).found;
-        let shape = shape_of(designated, self.rule, *iei);
+        let designated = find(self.reader.catalogue, *iei).found;
+        let shape = self.reader.shape_of(designated, *iei);
         let ie = ie_at(shape, *iei, self.place, octets)?;
-        Ok(Some(token_of(designated, self.rule, ie)))
+        Ok(Some(self.reader.token_of(designated, ie)))
     }
 
     // The next token, none at the end, or refusal 3, which the same step then repeats.
     pub fn step(&mut self) -> Result<Option<Token<'m>>, MessageFault>
-        ensures value { outcome result ≡ stepped (reads C.Catalogue.entries S.SkipRule.framed S.SkipRule.demands self.old) self.old.place (drop self.old.place self.old.message.now) }
-        ensures after { self.new ≡ moved_to self.old (moved self.old.place (outcome result)) }
-        ensures rest { left C.Catalogue.entries S.SkipRule.framed S.SkipRule.demands self.old ≡ resumed (outcome result) (left C.Catalogue.entries S.SkipRule.framed S.SkipRule.demands self.new) }
-        ensures onward { Onward (outcome result) self.old self.new }
+        ensures value { outcome result ≡ stepped (reads C.Catalogue S.SkipRule self.old.reader) self.old.place (drop self.old.place self.old.message.now) }
+        ensures after { standing self.new ≡ (self.old.message, moved self.old.place (outcome result), self.old.reader) }
+        ensures rest { left C.Catalogue S.SkipRule self.old ≡ resumed (outcome result) (left C.Catalogue S.SkipRule self.new) }
+        ensures onward { Onward (outcome result) self.old.message.now self.old.place self.new.place }
     {
         let ahead = self.ahead()?;
         if let Some(token) = ahead {

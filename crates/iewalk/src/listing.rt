@@ -1,8 +1,7 @@
 // What the program prints of a message: a line for each IE, the skipped ones too, and how the message ends.
-ghost use Rattle.std.specs.Prelude.{◌≡◌, ◌≤◌, ◌++◌, map, IfOk, string_bytes, OnOk};
-ghost use Rattle.ie_walk.specs.Reading.{reading};
+ghost use Rattle.std.specs.Prelude.{◌≡◌, ◌++◌, map, IfOk, string_bytes, OnOk};
+ghost use Rattle.ie_walk.specs.Reading.{reads};
 ghost use Rattle.ie_walk.specs.Runs.{left};
-ghost use Rattle.ie_walk.specs.Totals.{ies_of, octets_of};
 ghost use Rattle.iewalk.specs.Lines.{text, ie_line, closing_line};
 ghost use Rattle.iewalk.specs.Listing.{Appends, Listing};
 
@@ -10,9 +9,12 @@ use crate::line::{Line, OutOfMemory, push_line};
 use ie_catalogue::catalogue::Catalogue;
 use ie_text::HexOctet;
 use ie_walk::comprehension::Comprehension;
-use ie_walk::divide::{Division, divide};
+use ie_walk::divide::divide;
+use ie_walk::division::Division;
 use ie_walk::faults::MessageFault;
 use ie_walk::five_gs::FiveGs;
+use ie_walk::message::Message;
+use ie_walk::reader::Reader;
 use ie_walk::skip::SkipRule;
 use ie_walk::walk::Walk;
 use std::alloc::Global;
@@ -22,8 +24,6 @@ use ul_nas_transport::{catalogue, imperative_end};
 pub const LONGEST_INPUT: usize = 4096;
 
 fn last_line(division: Division) -> Line
-    requires ies { ies_of division.totals ≤ 65535 }
-    requires octets { octets_of division.totals ≤ 65535 }
     ensures { result ≡ closing_line division }
 {
     let totals = division.totals;
@@ -43,9 +43,9 @@ fn last_line(division: Division) -> Line
 
 fn push_ies<C: Catalogue, S: SkipRule>(
     out: &mut String,
-    mut walk: Walk<'_, '_, '_, C, S>,
+    mut walk: Walk<'_, '_, C, S>,
 ) -> Result<(), OutOfMemory>
-    ensures { OnOk result (string_bytes out.new ≡ string_bytes out.old ++ text (map ie_line (left C.Catalogue.entries S.SkipRule.framed S.SkipRule.demands walk.entry).tokens)) }
+    ensures { OnOk result (string_bytes out.new ≡ string_bytes out.old ++ text (map ie_line (left C.Catalogue S.SkipRule walk.entry).tokens)) }
 {
     while let Ok(Some(token)) = walk.step() {
         push_line(out, Line::from(token))?;
@@ -56,19 +56,17 @@ fn push_ies<C: Catalogue, S: SkipRule>(
 // The lines of any message under any catalogue and skip rule.
 fn push_message<C: Catalogue, S: SkipRule>(
     out: &mut String,
-    catalogue: &C,
-    rule: &S,
-    message: &[u8],
-    imperative_end: usize,
+    reader: Reader<'_, C, S>,
+    message: Message<'_>,
 ) -> Result<(), OutOfMemory>
-    ensures { OnOk result (Appends (reading (C.Catalogue.entries catalogue.now) (S.SkipRule.framed rule.now) (S.SkipRule.demands rule.now)) message.now imperative_end (string_bytes out.old) (string_bytes out.new)) }
+    ensures { OnOk result (Appends (reads C.Catalogue S.SkipRule reader.entry) message.entry.octets.now message.entry.imperative_end (string_bytes out.old) (string_bytes out.new)) }
 {
-    match Walk::start(catalogue, rule, message, imperative_end) {
+    match Walk::start(reader, message) {
         Ok(walk) => {
             push_ies(out, walk)?;
-            match divide(catalogue, rule, message, imperative_end) {
+            match divide(reader, message) {
                 Ok(division) => push_line(out, last_line(division)),
-                Err(_) => unreachable(),
+                Err(_) => unreachable!(),
             }
         }
         Err(fault) => push_line(out, Line::Refused(fault.number())),
@@ -84,9 +82,15 @@ pub fn listing(heap: Global, message: &[u8]) -> Result<String, OutOfMemory>
         push_line(&mut out, Line::Refused(MessageFault::TooLong.number()))?;
         return Ok(out);
     }
-    let rule = Comprehension { below: FiveGs };
-    let end = imperative_end(message);
-    push_message(&mut out, &catalogue(), &rule, message, end)?;
+    let reader = Reader {
+        catalogue: &catalogue(),
+        rule: &Comprehension { below: FiveGs },
+    };
+    let message = Message {
+        octets: message,
+        imperative_end: imperative_end(message),
+    };
+    push_message(&mut out, reader, message)?;
     Ok(out)
 }
 

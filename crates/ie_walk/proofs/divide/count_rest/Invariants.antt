@@ -5,11 +5,8 @@ use Rattle.ie_walk.proofs.divide.count_rest.Given as goal
 
 abbrev pub invariant-loop-token : goal.invariant-loop-token
 invariant-loop-token g l =
-    let ahead = left g.C.Catalogue.entries g.S.SkipRule.framed g.S.SkipRule.demands in
-    (length l.walk.message.now ≤ 65535)
-    × (l.walk.place ≤ length l.walk.message.now)
-    × Within l.totals l.walk.place
-    × (counted l.totals (ahead l.walk) ≡ counted l.initial.totals (ahead l.initial.walk))
+    let ahead = left g.C.Catalogue g.S.SkipRule in
+    Within l.totals l.walk.place × (counted l.totals (ahead l.walk) ≡ counted l.initial.totals (ahead l.initial.walk))
 
 abbrev pub decreases-loop-token : goal.decreases-loop-token
 decreases-loop-token g l = length l.walk.message.now - l.walk.place

@@ -1,5 +1,5 @@
 use Rattle.std.proofs.Common.{◌≡◌, rules}
-use Rattle.ie_walk.specs.Reading.{reading}
+use Rattle.ie_walk.specs.Reading.{reads}
 use Rattle.ie_walk.specs.Runs.{walked}
 use Rattle.ie_walk.specs.Totals.{no_totals, counted, counted_in}
 use Rattle.ie_walk.proofs.Laying.{counted_divides}
@@ -7,8 +7,8 @@ use Rattle.ie_walk.proofs.divide.divide.Goals as goal
 
 pub returns : goal.returns
 returns g c =
-    let R = reading (g.C.Catalogue.entries c.args.catalogue.now) (g.S.SkipRule.framed c.args.rule.now) (g.S.SkipRule.demands c.args.rule.now) in
-    let m = c.args.message.now in
-    let end = c.args.imperative_end in
+    let R = reads g.C.Catalogue g.S.SkipRule c.args.reader in
+    let m = c.args.message.octets.now in
+    let end = c.args.message.imperative_end in
     let e : counted_in c.count_rest.result ≡ counted no_totals (walked R m end) = search rules in
     record { value = search rules; division = counted_divides R m end c.count_rest.result e }

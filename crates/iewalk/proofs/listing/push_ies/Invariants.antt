@@ -6,7 +6,7 @@ use Rattle.iewalk.proofs.listing.push_ies.Given as goal
 -- the lines so far, and then those of what is ahead
 abbrev pub invariant-loop-token : goal.invariant-loop-token
 invariant-loop-token g l =
-    let ahead = left g.C.Catalogue.entries g.S.SkipRule.framed g.S.SkipRule.demands in
+    let ahead = left g.C.Catalogue g.S.SkipRule in
     string_bytes l.out ++ text (map ie_line (ahead l.walk).tokens) ≡ string_bytes l.initial.out ++ text (map ie_line (ahead l.initial.walk).tokens)
 
 abbrev pub decreases-loop-token : goal.decreases-loop-token

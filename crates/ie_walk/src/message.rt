@@ -1,0 +1,7 @@
+// A message, and where its imperative part ends.
+
+#[derive(Clone, Copy, PartialEq, Eq, Debug)]
+pub struct Message<'m> {
+    pub octets: &'m [u8],
+    pub imperative_end: usize,
+}
