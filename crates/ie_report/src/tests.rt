@@ -21,8 +21,8 @@ use ie_tally::severity::Severity;
 use ie_tally::tally::Tally;
 use ie_walk::comprehension::Comprehension;
 use ie_walk::faults::MessageFault;
-use ie_walk::five_gs::FiveGs;
 use ie_walk::ie::{Ie, Token};
+use ie_walk::protocol::Protocol;
 use std::test::Fail;
 
 // Every position has a rank in a lent table, 0 beyond it; none may follow one of a greater rank.
@@ -201,7 +201,9 @@ fn judged_in_turn(rt: HostRuntime) -> Result<(), Fail> {
         row(0x27, Presence::Optional),
     ];
     let catalogue = LentRows::lend(&rows)?;
-    let rule = Comprehension { below: FiveGs };
+    let rule = Comprehension {
+        below: Protocol::FiveGs,
+    };
     let mut order = Listed::new();
     let mut times = TimesTaken::none();
     let first = judge(&catalogue, &mut order, &mut times, OPTIONAL).ok_or("a row")?;
