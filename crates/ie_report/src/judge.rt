@@ -96,7 +96,7 @@ impl<'o, O: OrderRule> Met<'o, O> {
     }
 
     // The row of an IE; a skippable one has none.
-    pub(crate) fn judge<C: Catalogue>(&mut self, catalogue: &C, token: Token<'_>) -> Option<Row>
+    pub(crate) fn judge<C: Catalogue>(&mut self, catalogue: &C, token: Token<Ie<'_>>) -> Option<Row>
         ensures same_reference { self.new.order.ghost_name ≡ self.old.order.ghost_name }
         ensures value { option_to_list result ≡ judged_row (C.Catalogue.entries catalogue.now) (O.OrderRule.admits self.old.order.now) (met O.OrderRule self.old) (found_in token.entry) }
         ensures after { met O.OrderRule self.new ≡ judged_state (C.Catalogue.entries catalogue.now) (O.OrderRule.admits self.old.order.now) (met O.OrderRule self.old) (found_in token.entry) }
@@ -116,7 +116,7 @@ impl<'o, O: OrderRule> Met<'o, O> {
 }
 
 // What is skipped with an IE: it, if it is skippable.
-pub(crate) fn skipped(token: Token<'_>) -> Skipped
+pub(crate) fn skipped(token: Token<Ie<'_>>) -> Skipped
     ensures { result ≡ skip_of (found_in token.entry) }
 {
     match token {

@@ -128,7 +128,7 @@ fn row(iei: u8, presence: Presence) -> EntryRow {
     }
 }
 
-const OPTIONAL: Token<'static> = Token::Known {
+const OPTIONAL: Token<Ie<'static>> = Token::Known {
     position: 1,
     ie: Ie {
         iei: 0x27,
@@ -138,7 +138,7 @@ const OPTIONAL: Token<'static> = Token::Known {
     },
 };
 
-const MANDATORY: Token<'static> = Token::Known {
+const MANDATORY: Token<Ie<'static>> = Token::Known {
     position: 0,
     ie: Ie {
         iei: 0x05,

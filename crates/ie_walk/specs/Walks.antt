@@ -52,7 +52,7 @@ moved place (Ok (Some f)) = place + length f.part.whole
 moved place (Ok None) = place
 moved place (Err e) = place
 
-abbrev pub ie_in : Token → Ie
+abbrev pub ie_in : {I : Type 0} → Token I → I
 ie_in (token.Known p i) = i
 ie_in (token.Skippable i) = i
 ie_in (token.Demanding i) = i
@@ -60,7 +60,7 @@ ie_in (token.Demanding i) = i
 abbrev pub part_in : Ie → Part
 part_in i = record { iei = i.iei; place = i.place; whole = i.whole.now; value = i.value.now }
 
-abbrev pub found_in : Token → Found
+abbrev pub found_in : Token Ie → Found
 found_in (token.Known p i) = found (known p) (part_in i)
 found_in (token.Skippable i) = found skippable (part_in i)
 found_in (token.Demanding i) = found demanding (part_in i)
@@ -69,7 +69,7 @@ abbrev pub part_in_result : Result Ie (Placed IeFault) → Result Part (Placed I
 part_in_result (Ok i) = Ok (part_in i)
 part_in_result (Err e) = Err e
 
-abbrev pub outcome : Result (Option Token) MessageFault → Result (Option Found) Refusal
+abbrev pub outcome : Result (Option (Token Ie)) MessageFault → Result (Option Found) Refusal
 outcome (Ok (Some t)) = Ok (Some (found_in t))
 outcome (Ok None) = Ok None
 outcome (Err e) = Err (message_refusal e)

@@ -45,7 +45,7 @@ impl Totals {
     ghost use Rattle.ie_walk.specs.Walks.{found_in};
     ghost use Rattle.ie_walk.specs.Totals.{count, Within};
 
-    pub(crate) fn with(self, token: Token<'_>) -> Totals
+    pub(crate) fn with(self, token: Token<Ie<'_>>) -> Totals
         requires { Within self (found_in token).part.place }
         ensures { result ≡ count self (found_in token.entry) }
     {

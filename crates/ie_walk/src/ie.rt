@@ -12,19 +12,19 @@ pub struct Ie<'m> {
     pub ghost holds: { length value.now ≤ length whole.now },
 }
 
-// What a step gives: an IE that the catalogue knows at a position, or an unknown one.
+// What a step gives: an IE that the catalogue knows at a position, or an unknown one; by whatever tells of the IE.
 #[derive(Clone, Copy)]
-pub enum Token<'m> {
-    Known { position: usize, ie: Ie<'m> },
-    Skippable(Ie<'m>),
-    Demanding(Ie<'m>),
+pub enum Token<I> {
+    Known { position: usize, ie: I },
+    Skippable(I),
+    Demanding(I),
 }
 
-impl<'m> Token<'m> {
+impl<I> Token<I> {
     ghost use Rattle.ie_walk.specs.Walks.{ie_in};
 
-    pub fn ie(self) -> Ie<'m>
-        ensures { result ≡ ie_in self.entry }
+    pub fn ie(self) -> I
+        ensures { result ≡ ie_in self }
     {
         match self {
             Token::Known { ie, .. } | Token::Skippable(ie) | Token::Demanding(ie) => ie,

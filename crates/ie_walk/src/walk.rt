@@ -72,7 +72,7 @@ impl<'m, 'a, C: Catalogue, S: SkipRule> Walk<'m, 'a, C, S> {
     }
 
     // What stands at the walk's place, which it keeps.
-    fn ahead(&self) -> Result<Option<Token<'m>>, MessageFault>
+    fn ahead(&self) -> Result<Option<Token<Ie<'m>>>, MessageFault>
         ensures value { outcome result ≡ stepped (reads C.Catalogue S.SkipRule self.now.reader) self.now.place (drop self.now.place self.now.message.now) }
         ensures rest { left C.Catalogue S.SkipRule self.now ≡ resumed (outcome result) (walked (reads C.Catalogue S.SkipRule self.now.reader) self.now.message.now (moved self.now.place (outcome result))) }
         ensures onward { Onward (outcome result) self.now.message.now self.now.place (moved self.now.place (outcome result)) }
@@ -88,7 +88,7 @@ impl<'m, 'a, C: Catalogue, S: SkipRule> Walk<'m, 'a, C, S> {
     }
 
     // The next token, none at the end, or refusal 3, which the same step then repeats.
-    pub fn step(&mut self) -> Result<Option<Token<'m>>, MessageFault>
+    pub fn step(&mut self) -> Result<Option<Token<Ie<'m>>>, MessageFault>
         ensures value { outcome result ≡ stepped (reads C.Catalogue S.SkipRule self.old.reader) self.old.place (drop self.old.place self.old.message.now) }
         ensures after { standing self.new ≡ (self.old.message, moved self.old.place (outcome result), self.old.reader) }
         ensures rest { left C.Catalogue S.SkipRule self.old ≡ resumed (outcome result) (left C.Catalogue S.SkipRule self.new) }
