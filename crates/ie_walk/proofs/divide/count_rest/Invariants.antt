@@ -1,4 +1,4 @@
-use Rattle.std.proofs.Common.{◌≡◌, ◌-◌, ◌≤◌, length}
+use Rattle.std.proofs.Common.{◌≡◌, ◌-◌, length}
 use Rattle.ie_walk.specs.Runs.{left}
 use Rattle.ie_walk.specs.Totals.{counted, Within}
 use Rattle.ie_walk.proofs.divide.count_rest.Given as goal
