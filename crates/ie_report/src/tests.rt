@@ -19,8 +19,8 @@ use ie_tally::positions::Positions;
 use ie_tally::severity::Severity;
 use ie_walk::comprehension::Comprehension;
 use ie_walk::faults::MessageFault;
-use ie_walk::five_gs::FiveGs;
 use ie_walk::ie::{Ie, Token};
+use ie_walk::protocol::Protocol;
 use ie_walk::reader::Reader;
 use std::test::Fail;
 
@@ -165,7 +165,9 @@ fn judged_in_turn(rt: HostRuntime) -> Result<(), Fail> {
     let catalogue = LentRows::lend(&rows)?;
     let reader = Reader {
         catalogue: &catalogue,
-        rule: &Comprehension { below: FiveGs },
+        rule: &Comprehension {
+            below: Protocol::FiveGs,
+        },
     };
     let mut order = Ordered::new(Listed);
     let mut met = Met::none(&mut order);

@@ -19,13 +19,10 @@ impl<S: SkipRule> SkipRule for Comprehension<S> {
     }
 
     fn demanding(&self, octet: u8) -> bool {
-        if self.below.demanding(octet) {
-            return true;
-        }
-        match self.below.frame(octet) {
-            Frame::OneOctet => false,
-            Frame::Tlv => octet <= 0x0f,
-            Frame::TlvE => octet == 0x7e || octet == 0x7f,
-        }
+        self.below.demanding(octet)
+            || matches!(
+                (self.below.frame(octet), octet),
+                (Frame::Tlv, ..=0x0f) | (Frame::TlvE, 0x7e | 0x7f)
+            )
     }
 }

@@ -26,15 +26,13 @@ impl From<&Entry> for Shape {
     ghost from_gives = { λ entry shape. shape ≡ entry_shape entry.now };
 
     fn from(entry: &Entry) -> Shape {
-        match entry.row() {
-            Some(row) => match row.format {
-                Format::TvHalf | Format::T => Shape::Fixed(0),
-                Format::Tv => Shape::Fixed(row.least),
-                Format::Tlv => Shape::Tlv,
-                Format::TlvE => Shape::TlvE,
-            },
-            None => Shape::Fixed(0),
-        }
+        // the absent entry covers no octet, so its shape never matters
+        entry.row().map_or(Shape::Fixed(0), |row| match row.format {
+            Format::TvHalf | Format::T => Shape::Fixed(0),
+            Format::Tv => Shape::Fixed(row.least),
+            Format::Tlv => Shape::Tlv,
+            Format::TlvE => Shape::TlvE,
+        })
     }
 }
 

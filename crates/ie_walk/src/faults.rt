@@ -39,6 +39,7 @@ impl From<Placed<IeFault>> for MessageFault {
 }
 
 impl MessageFault {
+    // A truncated message carries its fault, so the cases have no numbers of their own.
     pub fn number(self) -> u8
         ensures { result ≡ (message_refusal self).number }
     {

@@ -5,12 +5,10 @@ pub mod comprehension;
 mod cut;
 pub mod divide;
 pub mod division;
-pub mod eps;
 pub mod faults;
-pub mod five_gs;
 pub mod ie;
 pub mod message;
-pub mod plain;
+pub mod protocol;
 pub mod reader;
 pub mod skip;
 #[cfg(test)]

@@ -1,11 +1,10 @@
 // Refusals 1, 2 and 3 of the walk, what repeats and what ends it, and a message divided under a pile of layers.
 use crate::comprehension::Comprehension;
 use crate::divide::divide;
-use crate::eps::Eps;
 use crate::faults::{IeFault, MessageFault, OctetFault, Placed};
-use crate::five_gs::FiveGs;
 use crate::ie::Token;
 use crate::message::Message;
+use crate::protocol::Protocol;
 use crate::reader::Reader;
 use crate::walk::Walk;
 use ie_catalogue::catalogue::Catalogue;
@@ -35,16 +34,15 @@ fn row(iei: u8, format: Format, length: u16, release: u8) -> EntryRow {
 fn refusal<C: Catalogue>(catalogue: &C, octets: &[u8], imperative_end: usize) -> u8 {
     let reader = Reader {
         catalogue,
-        rule: &FiveGs,
+        rule: &Protocol::FiveGs,
     };
     let message = Message {
         octets,
         imperative_end,
     };
-    match divide(reader, message) {
-        Ok(_) => 0,
-        Err(fault) => fault.number(),
-    }
+    divide(reader, message)
+        .err()
+        .map_or(0, MessageFault::number)
 }
 
 #[test]
@@ -63,7 +61,7 @@ fn truncated_again_and_again(rt: HostRuntime) -> Result<(), Fail> {
     let catalogue = LentRows::lend(&rows)?;
     let reader = Reader {
         catalogue: &catalogue,
-        rule: &FiveGs,
+        rule: &Protocol::FiveGs,
     };
     let message = Message {
         octets: &[0x80, 0x12],
@@ -82,10 +80,8 @@ fn truncated_again_and_again(rt: HostRuntime) -> Result<(), Fail> {
     });
     let _ = walk.step()?;
     for _ in 0..2 {
-        match walk.step() {
-            Ok(_) => return Err(Fail::new("the value is lacking")),
-            Err(again) => assert_eq!(rt; again, fault),
-        }
+        let again = walk.step().err().ok_or("the value is lacking")?;
+        assert_eq!(rt; again, fault);
     }
     Ok(())
 }
@@ -101,7 +97,9 @@ fn under_a_pile_of_layers(rt: HostRuntime) -> Result<(), Fail> {
         },
         link: Link::Up,
     };
-    let rule = Comprehension { below: Eps };
+    let rule = Comprehension {
+        below: Protocol::Eps,
+    };
     let reader = Reader {
         catalogue: &view,
         rule: &rule,

@@ -12,10 +12,10 @@ use ie_text::HexOctet;
 use ie_walk::comprehension::Comprehension;
 use ie_walk::divide::divide;
 use ie_walk::division::Division;
-use ie_walk::faults::MessageFault;
-use ie_walk::five_gs::FiveGs;
+use ie_walk::faults::{MessageFault, Placed};
 use ie_walk::ie::Token;
 use ie_walk::message::Message;
+use ie_walk::protocol::Protocol;
 use ie_walk::reader::Reader;
 use ie_walk::skip::SkipRule;
 use ie_walk::walk::Walk;
@@ -48,21 +48,23 @@ fn line_of(token: Token<'_>) -> Line
     }
 }
 
-fn last_line(division: Division) -> Line
-    ensures { result ≡ closing_line division }
-{
-    let totals = division.totals;
-    match division.unfinished {
-        Some(fault) => Line::Truncated {
-            iei: HexOctet(fault.thing.iei),
-            place: fault.place,
-            needed: fault.thing.octets.needed,
-            at_hand: fault.thing.octets.at_hand,
-        },
-        None => Line::End {
-            ies: totals.known.ies + totals.skippable.ies + totals.demanding.ies,
-            octets: totals.known.octets + totals.skippable.octets + totals.demanding.octets,
-        },
+// The last line.
+impl From<Division> for Line {
+    ghost from_gives = { λ division line. line ≡ closing_line division };
+
+    fn from(Division { totals, unfinished }: Division) -> Line {
+        match unfinished {
+            Some(Placed { thing, place }) => Line::Truncated {
+                iei: HexOctet(thing.iei),
+                place,
+                needed: thing.octets.needed,
+                at_hand: thing.octets.at_hand,
+            },
+            None => Line::End {
+                ies: totals.known.ies + totals.skippable.ies + totals.demanding.ies,
+                octets: totals.known.octets + totals.skippable.octets + totals.demanding.octets,
+            },
+        }
     }
 }
 
@@ -86,15 +88,12 @@ fn push_message<C: Catalogue, S: SkipRule>(
 ) -> Result<(), OutOfMemory>
     ensures { OnOk result (Appends (reads C.Catalogue S.SkipRule reader.entry) message.entry.octets.now message.entry.imperative_end (string_bytes out.old) (string_bytes out.new)) }
 {
-    match Walk::start(reader, message) {
-        Ok(walk) => {
+    match (Walk::start(reader, message), divide(reader, message)) {
+        (Ok(walk), Ok(division)) => {
             push_ies(out, walk)?;
-            match divide(reader, message) {
-                Ok(division) => push_line(out, last_line(division)),
-                Err(_) => unreachable!(),
-            }
+            push_line(out, Line::from(division))
         }
-        Err(fault) => push_line(out, Line::Refused(fault.number())),
+        (Err(fault), _) | (_, Err(fault)) => push_line(out, Line::Refused(fault.number())),
     }
 }
 
@@ -109,7 +108,9 @@ pub fn listing(heap: Global, message: &[u8]) -> Result<String, OutOfMemory>
     }
     let reader = Reader {
         catalogue: &catalogue(),
-        rule: &Comprehension { below: FiveGs },
+        rule: &Comprehension {
+            below: Protocol::FiveGs,
+        },
     };
     let message = Message {
         octets: message,
