@@ -43,7 +43,7 @@ skipped_laws =
     }
 
 -- the three, each equal to its like
-three_same : (a b : Tallies) → a.severity ≡ b.severity → a.taken ≡ b.taken → a.skipped ≡ b.skipped → a ≡ b
+pub three_same : (a b : Tallies) → a.severity ≡ b.severity → a.taken ≡ b.taken → a.skipped ≡ b.skipped → a ≡ b
 three_same a b p q r = λ i. of_three (p i) (q i) (r i)
 
 pub tallies_laws : Laws no_tallies each_joined

@@ -27,11 +27,12 @@ impl Tally for Tallies {
         Self::default()
     }
 
+    // Each kind by the one fold.
     fn join(self, other: Tallies) -> Tallies {
         Tallies {
-            severity: self.severity.join(other.severity),
-            taken: self.taken.join(other.taken),
-            skipped: self.skipped.join(other.skipped),
+            severity: fold(&[self.severity, other.severity]),
+            taken: fold(&[self.taken, other.taken]),
+            skipped: fold(&[self.skipped, other.skipped]),
         }
     }
 }
