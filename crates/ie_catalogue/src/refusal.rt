@@ -1,4 +1,5 @@
-// Why an operation on a catalogue declines, each cause with its number.
+// Why an operation on a catalogue declines, each cause with its number. Each enum casts itself: no generic function can
+// cast an enum, so one `number` for all would say no less.
 ghost use Rattle.std.specs.Prelude.{◌≡◌};
 ghost use Rattle.ie_catalogue.specs.Refusals.{entry_refusal, add_refusal, lend_refusal};
 

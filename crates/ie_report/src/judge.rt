@@ -77,6 +77,7 @@ impl<'o, O: OrderRule> Met<'o, O> {
         ensures after { met O.OrderRule self.new ≡ after_by result position (met O.OrderRule self.old) }
         ensures same { SameOrder (O.OrderRule.admits self.new.order.now) (O.OrderRule.admits self.old.order.now) }
     {
+        // One test after the other, as the rules have them: no chain says their order as plainly.
         let Some(known) = entry else {
             return RowKind::Surplus;
         };
@@ -110,6 +111,7 @@ impl<'o, O: OrderRule> Met<'o, O> {
                 Some(row_by(kind, position, half, ie))
             }
             Token::Skippable(_) => None,
+            // 64 is a row's number for no position.
             Token::Demanding(ie) => Some(row_by(RowKind::UnknownDemanding, 64, 0, ie)),
         }
     }

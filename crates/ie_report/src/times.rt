@@ -1,6 +1,7 @@
 // How often each entry was taken.
 ghost use Rattle.std.specs.Prelude.{◌≡◌, ◌+◌, ◌<◌, replicate, slice_index, slice_set};
 
+// A table by position: a map would ask for memory.
 #[derive(Clone, Copy)]
 pub struct TimesTaken {
     times: [u8; 64],

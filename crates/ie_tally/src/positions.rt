@@ -6,6 +6,7 @@ ghost use Rattle.ie_tally.specs.Joining.{positions_laws};
 
 use crate::tally::Tally;
 
+// One bit for each: a set of the library would ask for memory.
 #[derive(Clone, Copy, PartialEq, Eq, Default, Debug)]
 pub struct Positions {
     bits: u64,

@@ -9,6 +9,7 @@ pub trait Tally: Sized {
 
     ghost joined: { Self → Self → Self };
 
+    // No body here, though each kind's is its default: then every kind would owe `Default` and one law more.
     fn none() -> Self
         ensures { result ≡ neutral };
 

@@ -22,6 +22,7 @@ fn count_rest<C: Catalogue, S: SkipRule>(mut walk: Walk<'_, '_, C, S>) -> Divisi
             Ok(Some(token)) => totals = totals.with(token),
             Ok(None) => break None,
             Err(MessageFault::Truncated(fault)) => break Some(fault),
+            // Starting and stepping share one fault, so that `?` passes on both; a walk that has begun has only the third.
             Err(_) => unreachable!(),
         }
     };
