@@ -1,5 +1,5 @@
-// Why an operation on a catalogue declines, each cause with its number. Each enum casts itself: no generic function can
-// cast an enum, so one `number` for all would say no less.
+// Why an operation on a catalogue declines, each cause with its number. Each enum casts itself, since no generic
+// function can cast an enum.
 ghost use Rattle.std.specs.Prelude.{◌≡◌};
 ghost use Rattle.ie_catalogue.specs.Refusals.{entry_refusal, add_refusal, lend_refusal};
 
