@@ -1,5 +1,5 @@
 -- The whole walk, one step at a time.
-use Rattle.std.proofs.Common.{◌≡◌, ℕ, zero, suc, ◌+◌, ◌-◌, ◌<◌, ◌≤◌, Bool, true, false, cond, ltb, List, [], ◌∷◌, length, take, drop, Some, None, Ok, Err, Option, Result, sym, refl, ap, ◌∙◌, add-zero, arith, length-drop, length-take-le}
+use Rattle.std.proofs.Common.{◌≡◌, ℕ, zero, suc, ◌+◌, ◌-◌, ◌<◌, ◌≤◌, Bool, true, false, cond, ltb, List, [], ◌∷◌, length, take, drop, Some, None, Ok, Err, Option, Result, sym, refl, ap, ◌∙◌, add-zero, arith, length-take-le}
 use Rattle.std.proofs.lemmas.Bool.{ltb-false}
 use Rattle.std.proofs.lemmas.List.{drop-drop}
 use Rattle.ie_walk.specs.declared.cut.Shape.{Shape}
@@ -8,7 +8,7 @@ use Rattle.ie_walk.specs.Cuts.{head, length_of_value, needed, cut_of}
 use Rattle.ie_catalogue.specs.Refusals.{Refusal}
 use Rattle.ie_walk.specs.Reading.{Reading, Kind, shape, kind}
 use Rattle.ie_walk.specs.Walks.{Found, stepped, moved, found_as, part_of}
-use Rattle.ie_walk.specs.Runs.{run, onward, at_end, after_token, ended_by, walked, resumed, Onward}
+use Rattle.ie_walk.specs.Runs.{run, onward, at_end, after_token, ended_by, walked, resumed}
 
 pub head_some : (s : Shape) → 0 < head s
 head_some (Fixed n) = omega arith
@@ -76,11 +76,3 @@ module _ (R : Reading) (m : List ℕ) (p : ℕ) where
   rest_from (Ok (Some f)) e = walked_more R m p f (sym e)
   rest_from (Ok None) e = run_none R p (drop p m) (sym e)
   rest_from (Err x) e = run_short R p (drop p m) x (sym e)
-
-  pub onward_from : (s : Result (Option Found) Refusal) → Step s → Onward s m p (moved p s)
-  onward_from (Ok (Some f)) e =
-      let size = step_size R p (drop p m) f (sym e) in
-      let long = length-drop p m in
-      (size.2, omega (arith, size.0), refl, omega (arith, size.0, size.1, long))
-  onward_from (Ok None) e = tt
-  onward_from (Err x) e = tt

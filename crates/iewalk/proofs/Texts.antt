@@ -1,10 +1,7 @@
 -- Lines added to a text, one after another.
-use Rattle.std.proofs.Common.{◌≡◌, ℕ, List, [], ◌∷◌, ◌++◌, codes, refl, ap, ◌∙◌, append_assoc, append-nil}
+use Rattle.std.proofs.Common.{◌≡◌, List, [], ◌∷◌, ◌++◌, codes, refl, ap, ◌∙◌, append_assoc}
 use Rattle.iewalk.specs.declared.line.Line.{Line}
 use Rattle.iewalk.specs.Lines.{line_text, text}
-
-pub text_one : (out : List ℕ) (x : Line) (xs : List Line) → (out ++ text (x ∷ [])) ++ text xs ≡ out ++ text (x ∷ xs)
-text_one out x xs = simp (append-nil, append_assoc)
 
 pub text_joined : (xs ys : List Line) → text xs ++ text ys ≡ text (xs ++ ys)
 text_joined [] ys = refl
