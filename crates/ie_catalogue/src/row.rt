@@ -57,3 +57,19 @@ pub struct EntryRow {
     pub expect: Test,
     pub forbid: Test,
 }
+
+impl EntryRow {
+    // A row to start from: no value, both ways, once, from the first release of 5GS on, never expected nor forbidden.
+    pub const OPTIONAL: EntryRow = EntryRow {
+        iei: 0,
+        format: Format::T,
+        least: 0,
+        greatest: 0,
+        presence: Presence::Optional,
+        limit: 1,
+        release: 15,
+        direction: Direction::Both,
+        expect: Test::Never,
+        forbid: Test::Never,
+    };
+}

@@ -47,7 +47,8 @@ impl<C: Catalogue> Questions<'_, C> {
         ensures value { result ≡ finds (C.Catalogue.entries self.old.catalogue.now) octet }
         ensures asked { self.new.asked ≡ asks result (length (C.Catalogue.entries self.old.catalogue.now)) }
     {
-        // By position: a catalogue is asked for one entry at a time, and may hold none of them in a slice.
+        // By position: a catalogue is asked for one entry at a time. No chain: a closure that counts would leave the
+        // proof without the count.
         for position in 0..self.catalogue.count() {
             if let Some(designated) = self.covering(position, octet) {
                 return Some(designated);

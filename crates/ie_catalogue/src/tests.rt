@@ -14,14 +14,9 @@ fn optional(iei: u8, format: Format, greatest: u16, release: u8) -> EntryRow {
     EntryRow {
         iei,
         format,
-        least: 0,
         greatest,
-        presence: Presence::Optional,
-        limit: 1,
         release,
-        direction: Direction::Both,
-        expect: Test::Never,
-        forbid: Test::Never,
+        ..EntryRow::OPTIONAL
     }
 }
 
@@ -110,7 +105,7 @@ fn found_behind_hidden(rt: HostRuntime) -> Result<(), Fail> {
     };
     let view = View {
         below: &counting,
-        hidden: Release(15),
+        by: Release(15),
     };
     assert_eq!(rt; designate(&lent, 0x25), Some(1));
     assert_eq!(rt; designate(&view, 0x25), Some(2));
@@ -126,7 +121,7 @@ fn absent_entry_added(rt: HostRuntime) -> Result<(), Fail> {
     let rows = [optional(0x25, Format::Tlv, 100, 16)];
     let view = View {
         below: LentRows::lend(&rows)?,
-        hidden: Release(15),
+        by: Release(15),
     };
     let mut catalogue = CheckedCatalogue::new(rt.alloc())?;
     let hidden = view.entry(0).ok_or("the position is there")?;

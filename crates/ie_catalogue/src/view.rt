@@ -18,11 +18,11 @@ pub trait Hides {
 #[derive(Drop)]
 pub struct View<C, H> {
     pub below: C,
-    pub hidden: H,
+    pub by: H,
 }
 
 impl<C: Catalogue, H: Hides> Catalogue for View<C, H> {
-    ghost entries = { λ v. map (hiding (H.Hides.hidden v.hidden)) (C.Catalogue.entries v.below) };
+    ghost entries = { λ v. map (hiding (H.Hides.hidden v.by)) (C.Catalogue.entries v.below) };
 
     ghost few = { λ v. few_mapped _ _ (C.Catalogue.few v.below) };
 
@@ -32,6 +32,6 @@ impl<C: Catalogue, H: Hides> Catalogue for View<C, H> {
 
     fn entry(&self, position: usize) -> Option<Entry> {
         let entry = self.below.entry(position)?;
-        Some(entry.hidden_if(self.hidden.hides(&entry)))
+        Some(entry.hidden_if(self.by.hides(&entry)))
     }
 }

@@ -5,11 +5,13 @@
 --   format_in            an entry's format; the absent one has none
 --   State, fresh         what was met so far: how often each entry was taken, the positions that the order rule
 --                        admitted; nothing yet
+--   SameRule             the same reference to an order rule, and a rule with the same function behind it
 --   met                  the state that a Met means, given the meaning of its order rule
 --   kind_of              what a known IE meets, in this order: its limit, the order rule, the size of its value
 --   after                what is met then: a taken IE counts, and an ill-sized one was admitted all the same
 --   judge                the product's step: a known IE by its entry, a demanding one as unknown
-use Rattle.std.specs.Prelude.{ℕ, ◌+◌, cond, not, List, length, replicate, Option, nat_le, slice_index, slice_set}
+use Rattle.std.specs.Prelude.{◌≡◌, ℕ, ◌+◌, cond, not, List, length, replicate, Option, nat_le, slice_index, slice_set}
+use Rattle.std.specs.Borrow.{MutBor}
 use Rattle.std.specs.List.{slice_get}
 use Rattle.std.specs.Option.{unwrap_or, option_map}
 use Rattle.ie_catalogue.specs.declared.entry.Entry.{Entry}
@@ -26,7 +28,7 @@ use Rattle.ie_report.specs.declared.judge.Met.{Met}
 use Rattle.ie_report.specs.declared.order.OrderRule as order_rule
 use Rattle.ie_report.specs.declared.row.RowKind.{RowKind}
 use Rattle.ie_report.specs.declared.row.RowKind.TheVariants.{Taken, Surplus, OutOfSequence, IllSized, UnknownDemanding}
-use Rattle.ie_report.specs.Orders.{Order, lets_in}
+use Rattle.ie_report.specs.Orders.{Order, SameOrder, lets_in}
 
 pub record Unplaced : Type 0 where
   pub what : Kind
@@ -55,6 +57,9 @@ pub record State : Type 0 where
 
 abbrev pub state : List ℕ → ℕ → State
 state times admitted = record { times = times; admitted = admitted }
+
+abbrev pub SameRule : {O : Type 0} → order_rule.Ghosts O → MutBor O → MutBor O → Type 0
+SameRule O one other = (one.ghost_name ≡ other.ghost_name) × SameOrder (O.admits one.now) (O.admits other.now)
 
 abbrev pub met : {O : Type 0} → order_rule.Ghosts O → Met O → State
 met O m = state m.times.times (O.admitted m.order.now)

@@ -22,11 +22,11 @@ impl Closing<'_> {
     {
         match test {
             Test::Never => false,
-            Test::IfPresent(position) => self.taken.has(position as usize),
-            Test::IfAbsent(position) => !self.taken.has(position as usize),
+            Test::IfPresent(position) => self.taken.has(usize::from(position)),
+            Test::IfAbsent(position) => !self.taken.has(usize::from(position)),
             Test::IfOctet { place, mask, value } => self
                 .imperative
-                .get(place as usize)
+                .get(usize::from(place))
                 .is_some_and(|octet| *octet & mask == value),
         }
     }

@@ -2,8 +2,7 @@
 ghost use Rattle.std.specs.Prelude.{◌≡◌};
 ghost use Rattle.std.specs.Option.{option_to_list};
 ghost use Rattle.ie_walk.specs.Walks.{part_in, found_in};
-ghost use Rattle.ie_report.specs.Orders.{SameOrder};
-ghost use Rattle.ie_report.specs.Judging.{entry_in, format_in, fresh, met, kind_of, after as after_by};
+ghost use Rattle.ie_report.specs.Judging.{entry_in, format_in, fresh, met, SameRule, kind_of, after as after_by};
 ghost use Rattle.ie_report.specs.Rows.{half_by, row_by, judged_row, judged_state, skip_of};
 
 use crate::order::OrderRule;
@@ -58,10 +57,9 @@ pub struct Met<'o, O> {
 
 impl<'o, O: OrderRule> Met<'o, O> {
     // Nothing yet: the order rule is reset.
-    pub(crate) fn none(order: &'o mut O) -> Met<'o, O>
-        ensures same_reference { result.order.ghost_name ≡ order.entry.ghost_name }
+    pub(crate) fn begin(order: &'o mut O) -> Met<'o, O>
         ensures value { met O.OrderRule result ≡ fresh }
-        ensures same { SameOrder (O.OrderRule.admits result.order.now) (O.OrderRule.admits order.old) }
+        ensures same { SameRule O.OrderRule result.order order.entry }
     {
         order.reset();
         Met {
@@ -72,10 +70,9 @@ impl<'o, O: OrderRule> Met<'o, O> {
 
     // First the limit, then the order rule, then the size.
     fn judge_known(&mut self, entry: Option<Entry>, position: usize, length: usize) -> RowKind
-        ensures same_reference { self.new.order.ghost_name ≡ self.old.order.ghost_name }
         ensures value { result ≡ kind_of (O.OrderRule.admits self.old.order.now) (entry_in entry) (met O.OrderRule self.old) position length }
         ensures after { met O.OrderRule self.new ≡ after_by result position (met O.OrderRule self.old) }
-        ensures same { SameOrder (O.OrderRule.admits self.new.order.now) (O.OrderRule.admits self.old.order.now) }
+        ensures same { SameRule O.OrderRule self.new.order self.old.order }
     {
         // One test after the other, as the rules have them: no chain says their order as plainly.
         let Some(known) = entry else {
@@ -98,10 +95,9 @@ impl<'o, O: OrderRule> Met<'o, O> {
 
     // The row of an IE; a skippable one has none.
     pub(crate) fn judge<C: Catalogue>(&mut self, catalogue: &C, token: Token<Ie<'_>>) -> Option<Row>
-        ensures same_reference { self.new.order.ghost_name ≡ self.old.order.ghost_name }
         ensures value { option_to_list result ≡ judged_row (C.Catalogue.entries catalogue.now) (O.OrderRule.admits self.old.order.now) (met O.OrderRule self.old) (found_in token.entry) }
         ensures after { met O.OrderRule self.new ≡ judged_state (C.Catalogue.entries catalogue.now) (O.OrderRule.admits self.old.order.now) (met O.OrderRule self.old) (found_in token.entry) }
-        ensures same { SameOrder (O.OrderRule.admits self.new.order.now) (O.OrderRule.admits self.old.order.now) }
+        ensures same { SameRule O.OrderRule self.new.order self.old.order }
     {
         match token {
             Token::Known { position, ie } => {

@@ -13,6 +13,7 @@ pub enum ReportRefusal {
     DiagnosisPlaces,
 }
 
+// For `?`; `from_gives` says which fault came.
 impl From<MessageFault> for ReportRefusal {
     ghost from_gives = { λ fault r. r ≡ Message fault };
 

@@ -20,7 +20,7 @@ use ie_tally::severity::Severity;
 use ie_walk::comprehension::Comprehension;
 use ie_walk::faults::MessageFault;
 use ie_walk::ie::{Ie, Token};
-use ie_walk::protocol::Protocol;
+use ie_walk::protocol::ProtocolFamily;
 use ie_walk::reader::Reader;
 use std::test::Fail;
 
@@ -120,12 +120,15 @@ fn row(iei: u8, presence: Presence) -> EntryRow {
         least: 1,
         greatest: 2,
         presence,
-        limit: 1,
-        release: 15,
-        direction: Direction::Both,
-        expect: Test::Never,
-        forbid: Test::Never,
+        ..EntryRow::OPTIONAL
     }
+}
+
+fn rows() -> [EntryRow; 2] {
+    [
+        row(0x05, Presence::Mandatory),
+        row(0x27, Presence::Optional),
+    ]
 }
 
 const OPTIONAL: Token<Ie<'static>> = Token::Known {
@@ -158,19 +161,16 @@ const UNKNOWN: Ie<'static> = Ie {
 // In the listed order: taken, out of sequence, and 0 is missing in the end.
 #[test]
 fn judged_in_turn(rt: HostRuntime) -> Result<(), Fail> {
-    let rows = [
-        row(0x05, Presence::Mandatory),
-        row(0x27, Presence::Optional),
-    ];
+    let rows = rows();
     let catalogue = LentRows::lend(&rows)?;
     let reader = Reader {
         catalogue: &catalogue,
         rule: &Comprehension {
-            below: Protocol::FiveGs,
+            below: ProtocolFamily::FiveGs,
         },
     };
     let mut order = Ordered::new(Listed);
-    let mut met = Met::none(&mut order);
+    let mut met = Met::begin(&mut order);
     let first = met.judge(&catalogue, OPTIONAL).ok_or("a row")?;
     assert_eq!(rt; first.kind, RowKind::Taken);
     assert_eq!(rt; first.value(&[0, 0x27, 1, 0x22, 0x05]), [0x22].as_slice());
@@ -194,13 +194,10 @@ fn judged_in_turn(rt: HostRuntime) -> Result<(), Fail> {
 // A surplus, a demanding and a skippable IE are not offered to the order rule, any other once.
 #[test]
 fn offered_once(rt: HostRuntime) -> Result<(), Fail> {
-    let rows = [
-        row(0x05, Presence::Mandatory),
-        row(0x27, Presence::Optional),
-    ];
+    let rows = rows();
     let catalogue = LentRows::lend(&rows)?;
     let mut order = Counting::over(Ordered::new(Free));
-    let mut met = Met::none(&mut order);
+    let mut met = Met::begin(&mut order);
     let _ = met.judge(&catalogue, OPTIONAL);
     assert_eq!(rt; met.order.offers, 1);
     let _ = met.judge(&catalogue, OPTIONAL);
@@ -210,7 +207,7 @@ fn offered_once(rt: HostRuntime) -> Result<(), Fail> {
     let _ = met.judge(&catalogue, MANDATORY);
     assert_eq!(rt; met.order.offers, 2);
     let mut closed = Counting::over(Ordered::new(Closed));
-    let _ = Met::none(&mut closed).judge(&catalogue, OPTIONAL);
+    let _ = Met::begin(&mut closed).judge(&catalogue, OPTIONAL);
     assert_eq!(rt; closed.offers, 1);
     assert_eq!(rt; skipped(Token::Skippable(UNKNOWN)).octets, 2);
     assert_eq!(rt; skipped(Token::Demanding(UNKNOWN)).octets, 0);

@@ -24,7 +24,7 @@ impl TimesTaken {
         requires { slice_index self.old.times position < 255 }
         ensures { self.new.times ≡ slice_set self.old.times position (slice_index self.old.times position + 1) }
     {
-        // Not `get_mut`: what a write through a slice's does to the table is not known afterwards.
+        // Not `get_mut`: after a write through it a proof knows the table's length, and not its elements.
         if position < self.times.len() {
             self.times[position] += 1;
         }

@@ -23,6 +23,7 @@ impl Positions {
     pub fn with(self, position: usize) -> Positions
         ensures { result.bits ≡ with_position self.bits position }
     {
+        // The rules bound a position, and no method of a word has that bound.
         if position < 64 {
             Positions {
                 bits: self.bits | 1 << position,
@@ -32,7 +33,7 @@ impl Positions {
         }
     }
 
-    // Whether the set has a position greater than this one: from it on, more is left than its own bit.
+    // Whether the set has a position greater than this one: the bits from its own on are more than that one.
     #[tactic(auto, using(crate::proofs::Above::above_is, crate::proofs::Above::none_above))]
     pub fn has_above(self, position: usize) -> bool
         ensures { result ≡ has_above self.bits position }

@@ -10,9 +10,9 @@ use ie_catalogue::row::Presence;
 #[derive(Clone, Copy, PartialEq, Eq, PartialOrd, Ord, Default, Debug)]
 pub enum Severity {
     #[default]
-    Clear,
-    Conditional,
-    Mandatory,
+    Clear = 0,
+    Conditional = 1,
+    Mandatory = 2,
 }
 
 // That of an ill-sized IE, by the presence of its entry.

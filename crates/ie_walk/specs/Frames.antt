@@ -1,10 +1,10 @@
 -- The skip rules, in the standard's words: bit 8 is an octet's highest bit.
 --   eps, five_gs, plain   the frame of an unknown IE, by its IEI octet (TS 24.007, 11.2.4)
---   protocol_frame        the same, by the protocol
+--   family_frame        the same, by the protocol
 --   comprehended         'comprehension required', by frame and octet (TS 24.007, 11.2.5)
 use Rattle.std.specs.Prelude.{ℕ, ◌/◌, ◌%◌, Bool, false, cond, ◌==◌}
-use Rattle.ie_walk.specs.declared.protocol.Protocol.{Protocol}
-use Rattle.ie_walk.specs.declared.protocol.Protocol.TheVariants as protocol
+use Rattle.ie_walk.specs.declared.protocol.ProtocolFamily.{ProtocolFamily}
+use Rattle.ie_walk.specs.declared.protocol.ProtocolFamily.TheVariants as family
 use Rattle.ie_walk.specs.declared.skip.Frame.{Frame}
 use Rattle.ie_walk.specs.declared.skip.Frame.TheVariants.{OneOctet, Tlv, TlvE}
 
@@ -26,10 +26,10 @@ five_gs octet = cond (bit_8_set octet) OneOctet (cond (bits_7_to_5_set octet) Tl
 abbrev pub plain : ℕ → Frame
 plain octet = cond (bit_8_set octet) OneOctet Tlv
 
-abbrev pub protocol_frame : Protocol → ℕ → Frame
-protocol_frame protocol.Eps octet = eps octet
-protocol_frame protocol.FiveGs octet = five_gs octet
-protocol_frame protocol.Plain octet = plain octet
+abbrev pub family_frame : ProtocolFamily → ℕ → Frame
+family_frame family.Eps octet = eps octet
+family_frame family.FiveGs octet = five_gs octet
+family_frame family.Plain octet = plain octet
 
 -- TLV: bits 8 to 5 are clear; TLV-E: bit 8 is clear and bits 7 to 2 are set
 abbrev pub comprehended : Frame → ℕ → Bool

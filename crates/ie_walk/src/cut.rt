@@ -87,17 +87,17 @@ impl Shape {
         let at_hand = octets.len();
         match self {
             Shape::Fixed(size) => match octets {
-                [_iei, rest @ ..] => Cut::measured(octets, 1, rest, size as usize),
+                [_iei, rest @ ..] => Cut::measured(octets, 1, rest, usize::from(size)),
                 _ => Err(OctetFault { needed: 1, at_hand }),
             },
             Shape::Tlv => match octets {
-                [_iei, size, rest @ ..] => Cut::measured(octets, 2, rest, *size as usize),
+                [_iei, size, rest @ ..] => Cut::measured(octets, 2, rest, usize::from(*size)),
                 _ => Err(OctetFault { needed: 2, at_hand }),
             },
             Shape::TlvE => match octets {
                 [_iei, high, low, rest @ ..] => {
                     let size = u16::from_be_bytes([*high, *low]);
-                    Cut::measured(octets, 3, rest, size as usize)
+                    Cut::measured(octets, 3, rest, usize::from(size))
                 }
                 _ => Err(OctetFault { needed: 3, at_hand }),
             },

@@ -5,7 +5,7 @@ ghost use Rattle.ie_walk.specs.Reading.{reads};
 ghost use Rattle.ie_walk.specs.Runs.{left, walked};
 ghost use Rattle.ie_walk.specs.Totals.{no_totals, counted, counted_in, divided, Divided};
 
-use crate::division::{Division, Totals};
+pub use crate::division::{Count, Division, Totals};
 use crate::faults::MessageFault;
 use crate::message::Message;
 use crate::reader::Reader;

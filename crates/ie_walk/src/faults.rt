@@ -30,6 +30,7 @@ pub enum MessageFault {
     Truncated(Placed<IeFault>),
 }
 
+// For `?`; `from_gives` says which fault came.
 impl From<Placed<IeFault>> for MessageFault {
     ghost from_gives = { λ fault r. r ≡ Truncated fault };
 

@@ -12,7 +12,8 @@ pub struct Ie<'m> {
     pub ghost holds: { length value.now ≤ length whole.now },
 }
 
-// What a step gives: an IE that the catalogue knows at a position, or an unknown one; by whatever tells of the IE.
+// What a step gives: an IE that the catalogue knows at a position, or an unknown one. `I` is what tells of the IE:
+// `Ie` in a walk.
 #[derive(Clone, Copy)]
 pub enum Token<I> {
     Known { position: usize, ie: I },

@@ -4,7 +4,7 @@ use crate::divide::divide;
 use crate::faults::{IeFault, MessageFault, OctetFault, Placed};
 use crate::ie::Token;
 use crate::message::Message;
-use crate::protocol::Protocol;
+use crate::protocol::ProtocolFamily;
 use crate::reader::Reader;
 use crate::walk::Walk;
 use ie_catalogue::catalogue::Catalogue;
@@ -23,19 +23,16 @@ fn row(iei: u8, format: Format, length: u16, release: u8) -> EntryRow {
         format,
         least: length,
         greatest: length,
-        presence: Presence::Optional,
-        limit: 1,
         release,
         direction: Direction::Up,
-        expect: Test::Never,
-        forbid: Test::Never,
+        ..EntryRow::OPTIONAL
     }
 }
 
 fn refusal<C: Catalogue>(catalogue: &C, octets: &[u8], imperative_end: usize) -> u8 {
     let reader = Reader {
         catalogue,
-        rule: &Protocol::FiveGs,
+        rule: &ProtocolFamily::FiveGs,
     };
     let message = Message {
         octets,
@@ -62,7 +59,7 @@ fn truncated_again_and_again(rt: HostRuntime) -> Result<(), Fail> {
     let catalogue = LentRows::lend(&rows)?;
     let reader = Reader {
         catalogue: &catalogue,
-        rule: &Protocol::FiveGs,
+        rule: &ProtocolFamily::FiveGs,
     };
     let message = Message {
         octets: &[0x80, 0x12],
@@ -94,12 +91,12 @@ fn under_a_pile_of_layers(rt: HostRuntime) -> Result<(), Fail> {
     let view = View {
         below: View {
             below: LentRows::lend(&rows)?,
-            hidden: Release(15),
+            by: Release(15),
         },
-        hidden: Link::Up,
+        by: Link::Up,
     };
     let rule = Comprehension {
-        below: Protocol::Eps,
+        below: ProtocolFamily::Eps,
     };
     let reader = Reader {
         catalogue: &view,

@@ -23,8 +23,8 @@ fn ie_at<'m>(
     requires { place + length octets.now ≤ 65535 }
     ensures { part_in_result result ≡ ie_of shape iei place octets.now }
 {
-    let cut = shape.first_ie(octets).map_err(|octets| Placed {
-        thing: IeFault { iei, octets },
+    let cut = shape.first_ie(octets).map_err(|fault| Placed {
+        thing: IeFault { iei, octets: fault },
         place,
     })?;
     Ok(Ie {

@@ -13,7 +13,7 @@ use ie_walk::divide::divide;
 use ie_walk::division::Division;
 use ie_walk::faults::{MessageFault, Placed};
 use ie_walk::message::Message;
-use ie_walk::protocol::Protocol;
+use ie_walk::protocol::ProtocolFamily;
 use ie_walk::reader::Reader;
 use ie_walk::skip::SkipRule;
 use ie_walk::walk::Walk;
@@ -84,7 +84,7 @@ pub fn listing(heap: Global, message: &[u8]) -> Result<String, OutOfMemory>
     let reader = Reader {
         catalogue: &catalogue(),
         rule: &Comprehension {
-            below: Protocol::FiveGs,
+            below: ProtocolFamily::FiveGs,
         },
     };
     let message = Message {

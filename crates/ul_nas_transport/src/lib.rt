@@ -10,18 +10,9 @@ ghost use Rattle.ul_nas_transport.specs.Imperative.{imperative_end};
 use ie_catalogue::lent::LentRows;
 use ie_catalogue::row::{Direction, EntryRow, Format, Presence, Test};
 
-// Uplink, once, never expected nor forbidden.
-const OPTIONAL: EntryRow = EntryRow {
-    iei: 0,
-    format: Format::T,
-    least: 0,
-    greatest: 0,
-    presence: Presence::Optional,
-    limit: 1,
-    release: 15,
+const UPLINK: EntryRow = EntryRow {
     direction: Direction::Up,
-    expect: Test::Never,
-    forbid: Test::Never,
+    ..EntryRow::OPTIONAL
 };
 
 const ROWS: [EntryRow; 8] = [
@@ -37,7 +28,7 @@ const ROWS: [EntryRow; 8] = [
             mask: 0x0f,
             value: 1,
         },
-        ..OPTIONAL
+        ..UPLINK
     },
     // Old PDU session ID
     EntryRow {
@@ -45,13 +36,13 @@ const ROWS: [EntryRow; 8] = [
         format: Format::Tv,
         least: 1,
         greatest: 1,
-        ..OPTIONAL
+        ..UPLINK
     },
     // Request type
     EntryRow {
         iei: 0x8,
         format: Format::TvHalf,
-        ..OPTIONAL
+        ..UPLINK
     },
     // S-NSSAI
     EntryRow {
@@ -59,7 +50,7 @@ const ROWS: [EntryRow; 8] = [
         format: Format::Tlv,
         least: 1,
         greatest: 8,
-        ..OPTIONAL
+        ..UPLINK
     },
     // DNN
     EntryRow {
@@ -67,7 +58,7 @@ const ROWS: [EntryRow; 8] = [
         format: Format::Tlv,
         least: 1,
         greatest: 100,
-        ..OPTIONAL
+        ..UPLINK
     },
     // Additional information
     EntryRow {
@@ -75,21 +66,21 @@ const ROWS: [EntryRow; 8] = [
         format: Format::Tlv,
         least: 1,
         greatest: 255,
-        ..OPTIONAL
+        ..UPLINK
     },
     // MA PDU session information
     EntryRow {
         iei: 0xa,
         format: Format::TvHalf,
         release: 16,
-        ..OPTIONAL
+        ..UPLINK
     },
     // Release assistance indication
     EntryRow {
         iei: 0xf,
         format: Format::TvHalf,
         release: 16,
-        ..OPTIONAL
+        ..UPLINK
     },
 ];
 
@@ -112,7 +103,7 @@ pub fn imperative_end(message: &[u8]) -> usize
     ensures { result ≡ imperative_end message.now }
 {
     match message {
-        [_, _, _, _, high, low, ..] => 6 + u16::from_be_bytes([*high, *low]) as usize,
+        [_, _, _, _, high, low, ..] => 6 + usize::from(u16::from_be_bytes([*high, *low])),
         _ => 6,
     }
 }

@@ -99,7 +99,7 @@ impl Entry {
         ensures { result ≡ size_of self.now length }
     {
         let (least, greatest) = self.row.map_or((0, 0), |row| (row.least, row.greatest));
-        sized(least as usize, greatest as usize, length)
+        sized(usize::from(least), usize::from(greatest), length)
     }
 
     // The first octet that the entry covers, and the end of those that it covers.
@@ -107,7 +107,7 @@ impl Entry {
         ensures { result ≡ span self.now }
     {
         self.row.map_or((0, 0), |row| {
-            let iei = row.iei as u16;
+            let iei = u16::from(row.iei);
             match row.format {
                 Format::TvHalf => (iei * 16, iei * 16 + 16),
                 _ => (iei, iei + 1),
