@@ -47,6 +47,7 @@ impl CheckedCatalogue {
         ensures value { answered add_refusal result ≡ adding self.old.entries.items added }
         ensures after { self.new.entries.items ≡ added_to self.old.entries.items added }
         ensures kept { is_ok result ≡ false → self.new ≡ self.old }
+        ensures sole { Sole self.new.entries.items }
     {
         if self.entries.len() >= 64 {
             return Err(AddRefusal::Full);

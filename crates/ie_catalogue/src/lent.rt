@@ -1,5 +1,6 @@
 // A catalogue over lent rows, of which one that is ill-formed means the absent entry.
-ghost use Rattle.std.specs.Prelude.{◌≡◌, ◌≤◌, length};
+ghost use Rattle.std.specs.Prelude.{◌≡◌, ◌≤◌, length, map};
+ghost use Rattle.std.specs.List.{slice_get};
 ghost use Rattle.ie_catalogue.specs.Entries.{meant};
 ghost use Rattle.ie_catalogue.specs.Few.{few_mapped};
 
@@ -15,6 +16,7 @@ pub struct LentRows<'a> {
 }
 
 impl<'a> LentRows<'a> {
+    // Not at the top: these name the struct, whose ghost field imports what stands there.
     ghost use Rattle.ie_catalogue.specs.Lending.{lending, rows_lent};
     ghost use Rattle.ie_catalogue.specs.Refusals.{answered, lend_refusal};
 
@@ -30,6 +32,13 @@ impl<'a> LentRows<'a> {
     }
 }
 
+// What the row at a position means, if there is one. A function of its own, so that `entry` needs no proof file.
+fn entry_at(rows: &[EntryRow], position: usize) -> Option<Entry>
+    ensures { result ≡ slice_get (map meant rows.now) position }
+{
+    Some(Entry::meant(rows.get(position)?))
+}
+
 impl Catalogue for LentRows<'_> {
     ghost use Rattle.ie_catalogue.specs.Lending.{lent_entries};
 
@@ -42,6 +51,6 @@ impl Catalogue for LentRows<'_> {
     }
 
     fn entry(&self, position: usize) -> Option<Entry> {
-        Some(Entry::meant(self.rows.get(position)?))
+        entry_at(self.rows, position)
     }
 }

@@ -1,7 +1,7 @@
 // What becomes of one IE, after those before it.
-ghost use Rattle.std.specs.Prelude.{◌≡◌};
+ghost use Rattle.std.specs.Prelude.{◌≡◌, ◌+◌, ◌≤◌, length};
 ghost use Rattle.std.specs.Option.{option_to_list};
-ghost use Rattle.ie_walk.specs.Walks.{part_in, found_in};
+ghost use Rattle.ie_walk.specs.Walks.{part_in, found_in, Inside};
 ghost use Rattle.ie_report.specs.Judging.{entry_in, format_in, fresh, met, SameRule, kind_of, after as after_by};
 ghost use Rattle.ie_report.specs.Rows.{half_by, row_by, judged_row, judged_state, skip_of};
 
@@ -34,6 +34,7 @@ fn half_by(format: Option<Format>, iei: u8) -> u8
 }
 
 fn row_by(kind: RowKind, position: usize, half: u8, ie: Ie<'_>) -> Row
+    requires { Inside (part_in ie) }
     ensures { result ≡ row_by kind position half (part_in ie.entry) }
 {
     Row {
@@ -42,7 +43,7 @@ fn row_by(kind: RowKind, position: usize, half: u8, ie: Ie<'_>) -> Row
         iei: ie.iei,
         place: ie.place,
         size: ie.whole.len(),
-        value_place: ie.place + (ie.whole.len() - ie.value.len()),
+        value_place: ie.place + ie.whole.len().saturating_sub(ie.value.len()),
         value_length: ie.value.len(),
         half,
     }
@@ -94,7 +95,8 @@ impl<'o, O: OrderRule> Met<'o, O> {
     }
 
     // The row of an IE; a skippable one has none.
-    pub(crate) fn judge<C: Catalogue>(&mut self, catalogue: &C, token: Token<Ie<'_>>) -> Option<Row>
+    pub(crate) fn judge<C: Catalogue>(&mut self, catalogue: &C, token: Token<'_>) -> Option<Row>
+        requires { Inside (found_in token).part }
         ensures value { option_to_list result ≡ judged_row (C.Catalogue.entries catalogue.now) (O.OrderRule.admits self.old.order.now) (met O.OrderRule self.old) (found_in token.entry) }
         ensures after { met O.OrderRule self.new ≡ judged_state (C.Catalogue.entries catalogue.now) (O.OrderRule.admits self.old.order.now) (met O.OrderRule self.old) (found_in token.entry) }
         ensures same { SameRule O.OrderRule self.new.order self.old.order }
@@ -114,7 +116,8 @@ impl<'o, O: OrderRule> Met<'o, O> {
 }
 
 // What is skipped with an IE: it, if it is skippable.
-pub(crate) fn skipped(token: Token<Ie<'_>>) -> Skipped
+pub(crate) fn skipped(token: Token<'_>) -> Skipped
+    requires { Inside (found_in token).part }
     ensures { result ≡ skip_of (found_in token.entry) }
 {
     match token {

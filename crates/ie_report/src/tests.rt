@@ -131,7 +131,7 @@ fn rows() -> [EntryRow; 2] {
     ]
 }
 
-const OPTIONAL: Token<Ie<'static>> = Token::Known {
+const OPTIONAL: Token<'static> = Token::Known {
     position: 1,
     ie: Ie {
         iei: 0x27,
@@ -141,7 +141,7 @@ const OPTIONAL: Token<Ie<'static>> = Token::Known {
     },
 };
 
-const MANDATORY: Token<Ie<'static>> = Token::Known {
+const MANDATORY: Token<'static> = Token::Known {
     position: 0,
     ie: Ie {
         iei: 0x05,

@@ -9,8 +9,8 @@ use Rattle.ie_walk.specs.Reading.{Reading, Kind, known, skippable, demanding, sh
 use Rattle.ie_walk.specs.Walks.{Found, stepped, found_as, part_of}
 use Rattle.ie_walk.specs.Runs.{Run, run, after_token, walked}
 use Rattle.ie_catalogue.specs.Refusals.{Refusal}
-use Rattle.ie_walk.specs.declared.division.Totals.{Totals}
-use Rattle.ie_walk.specs.declared.division.Division.{Division}
+use Rattle.ie_walk.specs.declared.divide.Totals.{Totals}
+use Rattle.ie_walk.specs.declared.divide.Division.{Division}
 use Rattle.ie_walk.specs.Totals.{count, count_kind, counts, no_totals, counted, counted_in, ies_of, octets_of, Divided}
 use Rattle.ie_walk.specs.Grammar.{IsIe, Unfinished, IsDivision, end_to_end, token_at, laid, tail_fault}
 use Rattle.ie_walk.proofs.Running.{run_more, run_short}

@@ -6,9 +6,9 @@
 use Rattle.std.specs.Prelude.{◌≡◌, ℕ, ◌+◌, ◌≤◌, List, [], ◌∷◌, length, Ok, Err, Option, Result}
 use Rattle.std.specs.Option.{option_map}
 use Rattle.ie_catalogue.specs.Refusals.{Refusal}
-use Rattle.ie_walk.specs.declared.division.Count.{Count}
-use Rattle.ie_walk.specs.declared.division.Totals.{Totals}
-use Rattle.ie_walk.specs.declared.division.Division.{Division}
+use Rattle.ie_walk.specs.declared.divide.Count.{Count}
+use Rattle.ie_walk.specs.declared.divide.Totals.{Totals}
+use Rattle.ie_walk.specs.declared.divide.Division.{Division}
 use Rattle.ie_walk.specs.declared.faults.IeFault.{IeFault}
 use Rattle.ie_walk.specs.declared.faults.Placed.{Placed}
 use Rattle.ie_walk.specs.declared.faults.MessageFault.{MessageFault}

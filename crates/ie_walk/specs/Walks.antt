@@ -1,11 +1,12 @@
 -- What the walk finds at a place.
 --   Part, Found   an IE by its octets; with its kind
+--   Inside        the IE ends within the longest message
 --   ie_of         the IE of a given shape at the front of octets, or its fault
 --   stepped       one step over the octets that are left, the first of which stands at `place`
 --   moved         where the next step begins
 --   ie_in, part_in, found_in, part_in_result   a token's IE, and what they borrow
 --   outcome       a step's answer by what it borrows, a refusal by its number and values
-use Rattle.std.specs.Prelude.{ℕ, ◌+◌, List, [], ◌∷◌, length, Some, None, Ok, Err, Option, Result}
+use Rattle.std.specs.Prelude.{ℕ, ◌+◌, ◌≤◌, List, [], ◌∷◌, length, Some, None, Ok, Err, Option, Result}
 use Rattle.ie_catalogue.specs.Refusals.{Refusal}
 use Rattle.ie_walk.specs.declared.cut.Shape.{Shape}
 use Rattle.ie_walk.specs.declared.faults.IeFault.{IeFault}
@@ -24,6 +25,10 @@ pub record Part : Type 0 where
   pub place : ℕ
   pub whole : List ℕ
   pub value : List ℕ
+
+-- the IE ends within the longest message
+abbrev pub Inside : Part → Type 0
+Inside p = p.place + length p.whole ≤ 65535
 
 pub record Found : Type 0 where
   pub kind : Kind
@@ -52,7 +57,7 @@ moved place (Ok (Some f)) = place + length f.part.whole
 moved place (Ok None) = place
 moved place (Err e) = place
 
-abbrev pub ie_in : {I : Type 0} → Token I → I
+abbrev pub ie_in : Token → Ie
 ie_in (token.Known p i) = i
 ie_in (token.Skippable i) = i
 ie_in (token.Demanding i) = i
@@ -60,7 +65,7 @@ ie_in (token.Demanding i) = i
 abbrev pub part_in : Ie → Part
 part_in i = record { iei = i.iei; place = i.place; whole = i.whole.now; value = i.value.now }
 
-abbrev pub found_in : Token Ie → Found
+abbrev pub found_in : Token → Found
 found_in (token.Known p i) = found (known p) (part_in i)
 found_in (token.Skippable i) = found skippable (part_in i)
 found_in (token.Demanding i) = found demanding (part_in i)
@@ -69,7 +74,7 @@ abbrev pub part_in_result : Result Ie (Placed IeFault) → Result Part (Placed I
 part_in_result (Ok i) = Ok (part_in i)
 part_in_result (Err e) = Err e
 
-abbrev pub outcome : Result (Option (Token Ie)) MessageFault → Result (Option Found) Refusal
+abbrev pub outcome : Result (Option Token) MessageFault → Result (Option Found) Refusal
 outcome (Ok (Some t)) = Ok (Some (found_in t))
 outcome (Ok None) = Ok None
 outcome (Err e) = Err (message_refusal e)

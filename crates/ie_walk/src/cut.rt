@@ -1,5 +1,6 @@
 // One IE, cut from the front of the octets that are left.
-ghost use Rattle.std.specs.Prelude.{◌≡◌, ◌+◌, ◌<◌, ◌≤◌, length, drop, IfOk};
+ghost use Rattle.std.specs.Prelude.{◌≡◌, ◌+◌, ◌<◌, ◌≤◌, length, drop};
+ghost use Rattle.ie_walk.specs.Cuts.{needed, head, cut_of, cut_meaning};
 ghost use Rattle.ie_walk.specs.Shapes.{entry_shape, frame_shape};
 
 use crate::faults::OctetFault;
@@ -19,7 +20,6 @@ pub enum Shape {
 pub struct Cut<'m> {
     pub whole: &'m [u8],
     pub value: &'m [u8],
-    pub ghost holds: { length value.now ≤ length whole.now },
 }
 
 impl From<&Entry> for Shape {
@@ -49,8 +49,6 @@ impl From<Frame> for Shape {
 }
 
 impl<'m> Cut<'m> {
-    ghost use Rattle.ie_walk.specs.Cuts.{cut_of, cut_meaning};
-
     // The value of `size` octets after a head of `head` octets.
     fn measured(
         octets: &'m [u8],
@@ -61,8 +59,7 @@ impl<'m> Cut<'m> {
         requires after { rest.now ≡ drop head octets.now }
         requires within { head ≤ length octets.now }
         requires small { head + size < 65540 }
-        ensures value { cut_meaning result ≡ cut_of octets.now head (head + size) }
-        ensures within { IfOk result (λ cut. length cut.whole.now ≤ length octets.now) }
+        ensures { cut_meaning result ≡ cut_of octets.now head (head + size) }
     {
         let needed = head + size;
         let value = rest.get(..size).ok_or(OctetFault {
@@ -77,12 +74,9 @@ impl<'m> Cut<'m> {
 }
 
 impl Shape {
-    ghost use Rattle.ie_walk.specs.Cuts.{needed, head, cut_of, cut_meaning};
-
     // The IE at the front of `octets`, whose first is its IEI.
     pub(crate) fn first_ie<'m>(self, octets: &'m [u8]) -> Result<Cut<'m>, OctetFault>
-        ensures value { cut_meaning result ≡ cut_of octets.now (head self) (needed self octets.now) }
-        ensures within { IfOk result (λ cut. length cut.whole.now ≤ length octets.now) }
+        ensures { cut_meaning result ≡ cut_of octets.now (head self) (needed self octets.now) }
     {
         let at_hand = octets.len();
         match self {

@@ -4,7 +4,6 @@
 pub mod comprehension;
 mod cut;
 pub mod divide;
-pub mod division;
 pub mod faults;
 pub mod ie;
 pub mod message;

@@ -25,7 +25,7 @@ impl<C, S: SkipRule> Reader<'_, C, S> {
         }
     }
 
-    pub(crate) fn token_of<'m>(self, designated: Option<Designated>, ie: Ie<'m>) -> Token<Ie<'m>>
+    pub(crate) fn token_of<'m>(self, designated: Option<Designated>, ie: Ie<'m>) -> Token<'m>
         ensures { found_in result ≡ found (sorted designated (S.SkipRule.demands self.entry.rule.now ie.entry.iei)) (part_in ie.entry) }
     {
         match designated {

@@ -20,7 +20,6 @@ fn ie_at<'m>(
     place: usize,
     octets: &'m [u8],
 ) -> Result<Ie<'m>, Placed<IeFault>>
-    requires { place + length octets.now ≤ 65535 }
     ensures { part_in_result result ≡ ie_of shape iei place octets.now }
 {
     let cut = shape.first_ie(octets).map_err(|fault| Placed {
@@ -45,6 +44,7 @@ pub struct Walk<'m, 'a, C, S> {
 }
 
 impl<'m, 'a, C: Catalogue, S: SkipRule> Walk<'m, 'a, C, S> {
+    // Not at the top: these name the struct, whose ghost fields import what stands there.
     ghost use Rattle.ie_walk.specs.Runs.{walked, left, resumed, standing, begun, Onward};
 
     // Refusal 1 for a message of more than 65,535 octets, 2 for an imperative end beyond it.
@@ -72,7 +72,7 @@ impl<'m, 'a, C: Catalogue, S: SkipRule> Walk<'m, 'a, C, S> {
     }
 
     // What stands at the walk's place, which it keeps.
-    fn ahead(&self) -> Result<Option<Token<Ie<'m>>>, MessageFault>
+    fn ahead(&self) -> Result<Option<Token<'m>>, MessageFault>
         ensures value { outcome result ≡ stepped (reads C.Catalogue S.SkipRule self.now.reader) self.now.place (drop self.now.place self.now.message.now) }
         ensures rest { left C.Catalogue S.SkipRule self.now ≡ resumed (outcome result) (walked (reads C.Catalogue S.SkipRule self.now.reader) self.now.message.now (moved self.now.place (outcome result))) }
         ensures onward { Onward (outcome result) self.now.message.now self.now.place (moved self.now.place (outcome result)) }
@@ -88,7 +88,7 @@ impl<'m, 'a, C: Catalogue, S: SkipRule> Walk<'m, 'a, C, S> {
     }
 
     // The next token, none at the end, or refusal 3, which the same step then repeats.
-    pub fn step(&mut self) -> Result<Option<Token<Ie<'m>>>, MessageFault>
+    pub fn step(&mut self) -> Result<Option<Token<'m>>, MessageFault>
         ensures value { outcome result ≡ stepped (reads C.Catalogue S.SkipRule self.old.reader) self.old.place (drop self.old.place self.old.message.now) }
         ensures after { standing self.new ≡ (self.old.message, moved self.old.place (outcome result), self.old.reader) }
         ensures rest { left C.Catalogue S.SkipRule self.old ≡ resumed (outcome result) (left C.Catalogue S.SkipRule self.new) }

@@ -1,7 +1,7 @@
 -- The last line is that of the division.
 use Rattle.std.proofs.Common.{◌≡◌, ℕ, ◌+◌, ◌≤◌, List, [], ◌∷◌, ◌++◌, map, length, IfOk, Some, None, Ok, Err, Option, Result, ap, ◌∙◌, subst, append_assoc, arith}
-use Rattle.ie_walk.specs.declared.division.Division.{Division}
-use Rattle.ie_walk.specs.declared.division.Totals.{Totals}
+use Rattle.ie_walk.specs.declared.divide.Division.{Division}
+use Rattle.ie_walk.specs.declared.divide.Totals.{Totals}
 use Rattle.ie_walk.specs.declared.faults.IeFault.{IeFault}
 use Rattle.ie_walk.specs.declared.faults.Placed.{Placed}
 use Rattle.ie_catalogue.specs.Refusals.{Refusal}

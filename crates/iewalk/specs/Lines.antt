@@ -8,8 +8,8 @@
 use Rattle.std.specs.Prelude.{ℕ, List, [], ◌∷◌, ◌++◌, length, Some, None, codes, decimal, Option}
 use Rattle.ie_text.specs.declared.HexOctet.{HexOctet}
 use Rattle.ie_text.specs.Hex.{hex_octet}
-use Rattle.ie_walk.specs.declared.division.Division.{Division}
-use Rattle.ie_walk.specs.declared.division.Totals.{Totals}
+use Rattle.ie_walk.specs.declared.divide.Division.{Division}
+use Rattle.ie_walk.specs.declared.divide.Totals.{Totals}
 use Rattle.ie_walk.specs.declared.faults.IeFault.{IeFault}
 use Rattle.ie_walk.specs.declared.faults.Placed.{Placed}
 use Rattle.ie_walk.specs.Reading.{Kind, known, skippable, demanding}

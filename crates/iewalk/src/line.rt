@@ -59,10 +59,10 @@ pub enum Line {
     },
 }
 
-impl From<Token<Ie<'_>>> for Line {
+impl From<Token<'_>> for Line {
     ghost from_gives = { λ token r. r ≡ ie_line (found_in token) };
 
-    fn from(token: Token<Ie<'_>>) -> Line {
+    fn from(token: Token<'_>) -> Line {
         match token {
             Token::Known { position, ie } => Line::Known {
                 entry: position,

@@ -2,6 +2,7 @@
 ghost use Rattle.std.specs.Prelude.{◌≡◌, ◌++◌, map, IfOk, string_bytes, OnOk};
 ghost use Rattle.ie_walk.specs.Reading.{reads};
 ghost use Rattle.ie_walk.specs.Runs.{left};
+ghost use Rattle.ie_walk.specs.Totals.{Within};
 ghost use Rattle.iewalk.specs.Lines.{text, ie_line, closing_line};
 ghost use Rattle.iewalk.specs.Listing.{Appends, Listing};
 
@@ -9,8 +10,7 @@ use crate::line::{Line, OutOfMemory, push_line};
 use ie_catalogue::catalogue::Catalogue;
 use ie_text::HexOctet;
 use ie_walk::comprehension::Comprehension;
-use ie_walk::divide::divide;
-use ie_walk::division::Division;
+use ie_walk::divide::{Division, divide};
 use ie_walk::faults::{MessageFault, Placed};
 use ie_walk::message::Message;
 use ie_walk::protocol::ProtocolFamily;
@@ -23,23 +23,23 @@ use ul_nas_transport::{catalogue, imperative_end};
 // The most octets that the program takes.
 pub const LONGEST_INPUT: usize = 4096;
 
-// The last line.
-impl From<Division> for Line {
-    ghost from_gives = { λ division line. line ≡ closing_line division };
-
-    fn from(Division { totals, unfinished }: Division) -> Line {
-        match unfinished {
-            Some(Placed { thing, place }) => Line::Truncated {
-                iei: HexOctet(thing.iei),
-                place,
-                needed: thing.octets.needed,
-                at_hand: thing.octets.at_hand,
-            },
-            None => Line::End {
-                ies: totals.known.ies + totals.skippable.ies + totals.demanding.ies,
-                octets: totals.known.octets + totals.skippable.octets + totals.demanding.octets,
-            },
-        }
+// No `From`: the sums need their bound.
+fn last_line(division: Division) -> Line
+    requires { Within division.totals 65535 }
+    ensures { result ≡ closing_line division }
+{
+    let Division { totals, unfinished } = division;
+    match unfinished {
+        Some(Placed { thing, place }) => Line::Truncated {
+            iei: HexOctet(thing.iei),
+            place,
+            needed: thing.octets.needed,
+            at_hand: thing.octets.at_hand,
+        },
+        None => Line::End {
+            ies: totals.known.ies + totals.skippable.ies + totals.demanding.ies,
+            octets: totals.known.octets + totals.skippable.octets + totals.demanding.octets,
+        },
     }
 }
 
@@ -66,7 +66,7 @@ fn push_message<C: Catalogue, S: SkipRule>(
     match (Walk::start(reader, message), divide(reader, message)) {
         (Ok(walk), Ok(division)) => {
             push_ies(out, walk)?;
-            push_line(out, Line::from(division))
+            push_line(out, last_line(division))
         }
         (Err(fault), _) | (_, Err(fault)) => push_line(out, Line::Refused(fault.number())),
     }

@@ -5,10 +5,10 @@ use Rattle.ie_walk.specs.Totals.{no_totals, counted, counted_in}
 use Rattle.ie_walk.proofs.Laying.{counted_divides}
 use Rattle.ie_walk.proofs.divide.divide.Goals as goal
 
-pub returns : goal.returns
-returns g c =
+pub returns-clause-division : goal.returns-clause-division
+returns-clause-division g c =
     let R = reads g.C.Catalogue g.S.SkipRule c.args.reader in
     let m = c.args.message.octets.now in
     let end = c.args.message.imperative_end in
     let e : counted_in c.count_rest.result ≡ counted no_totals (walked R m end) = search rules in
-    record { value = search rules; division = counted_divides R m end c.count_rest.result e }
+    counted_divides R m end c.count_rest.result e

@@ -19,6 +19,6 @@ returns-in_ok-push_ies-in-Ok-Ok g c =
     let after = string_bytes c.push_line.new.out in
     let h = started m end (standing c.in-Ok-Ok.walk) (message, end, c.args.reader) c.in-Ok-Ok.ensures in
     let a = c.in_ok-push_ies-in-Ok-Ok.ensures ∙ ap (λ (w : Standing _ _). before ++ text (map ie_line (walked (reads_by w.2) w.0.now w.1).tokens)) h.2 in
-    made_with c.push_line.result (after ≡ middle ++ text (c.from.result ∷ [])) (Appends R m end before after)
-    (λ b. appended R m end c.in-Ok-Ok.division c.in-Ok-Ok.ensures'.division before middle after h.0 h.1 a (b ∙ ap (λ x. middle ++ text (x ∷ [])) c.from.ensures))
+    made_with c.push_line.result (after ≡ middle ++ text (c.last_line.result ∷ [])) (Appends R m end before after)
+    (λ b. appended R m end c.in-Ok-Ok.division c.in-Ok-Ok.ensures'.division before middle after h.0 h.1 a (b ∙ ap (λ x. middle ++ text (x ∷ [])) c.last_line.ensures))
     c.push_line.ensures
