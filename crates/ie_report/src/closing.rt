@@ -31,7 +31,8 @@ impl Closing<'_> {
         }
     }
 
-    // What is wrong with an entry at the end, if anything.
+    // What is wrong with an entry at the end, if anything. An entry and its position, not a `Designated`: no octet
+    // designates it.
     fn wrong_with(self, entry: &Entry, position: usize) -> Option<DiagnosisKind>
         ensures { result ≡ wrong_with self.entry.imperative.now self.entry.taken.bits position entry.now }
     {
@@ -48,7 +49,7 @@ impl Closing<'_> {
         }
     }
 
-    // The diagnosis of the entry at a position; a hidden entry has none.
+    // The diagnosis of the entry at a position; a hidden entry has none. No octet and no place: 0, as the rules say.
     pub(crate) fn close(self, entry: &Entry, position: usize) -> Option<Placed<Diagnosis>>
         ensures { result ≡ option_map (at_position position) (wrong_with self.entry.imperative.now self.entry.taken.bits position entry.now) }
     {

@@ -23,7 +23,7 @@ pub(crate) fn format_of(entry: Option<Entry>) -> Option<Format>
     entry?.row().map(|row| row.format)
 }
 
-// The lower half octet of format 1.
+// The lower half octet of format 1. By the format alone, since an unknown IE has no row.
 fn half_by(format: Option<Format>, iei: u8) -> u8
     ensures { result ≡ half_by format iei }
 {

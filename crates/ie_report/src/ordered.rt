@@ -42,6 +42,7 @@ impl<D: Decision> OrderRule for Ordered<D> {
         self.admitted = Positions::none();
     }
 
+    // The bound of 63 is the rules'; a decision need not know it.
     fn offer(&mut self, position: usize) -> bool {
         if position >= 64 || !self.decision.admits(self.admitted, position) {
             return false;

@@ -6,7 +6,8 @@ ghost use Rattle.ie_tally.specs.Joining.{positions_laws};
 
 use crate::tally::Tally;
 
-// One bit for each: a set of the library would ask for memory.
+// One bit for each: a set of the library would ask for memory. Each method tests the bound of 63 that the rules set,
+// which no method of a word has.
 #[derive(Clone, Copy, PartialEq, Eq, Default, Debug)]
 pub struct Positions {
     bits: u64,
@@ -23,7 +24,6 @@ impl Positions {
     pub fn with(self, position: usize) -> Positions
         ensures { result.bits ≡ with_position self.bits position }
     {
-        // The rules bound a position, and no method of a word has that bound.
         if position < 64 {
             Positions {
                 bits: self.bits | 1 << position,

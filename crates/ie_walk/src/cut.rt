@@ -66,6 +66,7 @@ impl<'m> Cut<'m> {
             needed,
             at_hand: octets.len(),
         })?;
+        // That `rest` has the value shows that the octets have the whole.
         Ok(Cut {
             whole: &octets[..needed],
             value,

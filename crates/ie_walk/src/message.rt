@@ -1,4 +1,4 @@
-// A message, and where its imperative part ends.
+// A message, and where its imperative part ends. Apart from the reader, since one reader reads many messages.
 
 #[derive(Clone, Copy, PartialEq, Eq, Debug)]
 pub struct Message<'m> {
