@@ -1,5 +1,5 @@
 // What becomes of one IE, after those before it.
-ghost use Rattle.std.specs.Prelude.{◌≡◌, ◌+◌, ◌≤◌, length};
+ghost use Rattle.std.specs.Prelude.{◌≡◌, ◌≤◌, length};
 ghost use Rattle.std.specs.Option.{option_to_list};
 ghost use Rattle.ie_walk.specs.Walks.{part_in, found_in, Inside};
 ghost use Rattle.ie_report.specs.Judging.{entry_in, format_in, fresh, met, SameRule, kind_of, after as after_by};
@@ -69,7 +69,7 @@ impl<'o, O: OrderRule> Met<'o, O> {
         }
     }
 
-    // First the limit, then the order rule, then the size.
+    // First the limit, then the order rule, then the size. No `Designated`: the entry may be missing.
     fn judge_known(&mut self, entry: Option<Entry>, position: usize, length: usize) -> RowKind
         ensures value { result ≡ kind_of (O.OrderRule.admits self.old.order.now) (entry_in entry) (met O.OrderRule self.old) position length }
         ensures after { met O.OrderRule self.new ≡ after_by result position (met O.OrderRule self.old) }
@@ -117,7 +117,7 @@ impl<'o, O: OrderRule> Met<'o, O> {
 
 // What is skipped with an IE: it, if it is skippable.
 pub(crate) fn skipped(token: Token<'_>) -> Skipped
-    requires { Inside (found_in token).part }
+    requires { length (found_in token).part.whole ≤ 65535 }
     ensures { result ≡ skip_of (found_in token.entry) }
 {
     match token {

@@ -9,6 +9,7 @@ use std::fmt;
 #[derive(Clone, Copy)]
 pub struct HexOctet(pub u8);
 
+// By hand, since a derived one promises nothing of its text.
 impl fmt::Display for HexOctet {
     ghost output = { λ x. Some (hex_octet x.0) };
 

@@ -2,6 +2,7 @@
 --   count, counts   one IE counted; a list of them
 --   counted         the totals of a walk, and the fault that ended it
 --   divided         the answer of a whole walk, a refusal by its number and values
+--   SumsWithin      all IEs are at most so many, and so are all octets
 --   Divided         the totals count the IEs of the only division there is, and add up to all of them
 use Rattle.std.specs.Prelude.{◌≡◌, ℕ, ◌+◌, ◌≤◌, List, [], ◌∷◌, length, Ok, Err, Option, Result}
 use Rattle.std.specs.Option.{option_map}
@@ -67,6 +68,6 @@ pub record Divided (R : Reading) (m : List ℕ) (end : ℕ) (d : Division) : Typ
   pub all_ies : ies_of d.totals ≡ length division.ies
   pub all_octets : octets_of d.totals ≡ length (end_to_end division.ies)
 
--- no sum of the totals, and so no number in them, is above n
-abbrev pub Within : Totals → ℕ → Type 0
-Within t n = (ies_of t ≤ n) × (octets_of t ≤ n)
+-- so no number in the totals is above n
+abbrev pub SumsWithin : Totals → ℕ → Type 0
+SumsWithin t n = (ies_of t ≤ n) × (octets_of t ≤ n)

@@ -3,7 +3,7 @@ ghost use Rattle.std.specs.Prelude.{◌≡◌, ◌≤◌, length, IfOk};
 ghost use Rattle.ie_walk.specs.Faults.{starting};
 ghost use Rattle.ie_walk.specs.Reading.{reads};
 ghost use Rattle.ie_walk.specs.Runs.{left, walked};
-ghost use Rattle.ie_walk.specs.Totals.{one_more, count, no_totals, counted, counted_in, divided, Within, Divided};
+ghost use Rattle.ie_walk.specs.Totals.{one_more, count, no_totals, counted, counted_in, divided, SumsWithin, Divided};
 ghost use Rattle.ie_walk.specs.Walks.{part_in, found_in, Inside};
 
 use crate::faults::{IeFault, MessageFault, Placed};
@@ -50,7 +50,7 @@ impl Count {
 
 impl Totals {
     fn with(self, token: Token<'_>) -> Totals
-        requires within { Within self (found_in token).part.place }
+        requires within { SumsWithin self (found_in token).part.place }
         requires room { Inside (found_in token).part }
         ensures { result ≡ count self (found_in token.entry) }
     {
@@ -73,7 +73,7 @@ impl Totals {
 
 fn count_rest<C: Catalogue, S: SkipRule>(mut walk: Walk<'_, '_, C, S>) -> Division
     ensures value { counted_in result ≡ counted no_totals (left C.Catalogue S.SkipRule walk.entry) }
-    ensures within { Within result.totals 65535 }
+    ensures within { SumsWithin result.totals 65535 }
 {
     let mut totals = Totals::default();
     let unfinished = loop {
@@ -94,7 +94,7 @@ pub fn divide<C: Catalogue, S: SkipRule>(
     message: Message<'_>,
 ) -> Result<Division, MessageFault>
     ensures value { divided result ≡ starting message.entry.octets.now message.entry.imperative_end (counted no_totals (walked (reads C.Catalogue S.SkipRule reader.entry) message.entry.octets.now message.entry.imperative_end)) }
-    ensures within { IfOk result (λ division. Within division.totals 65535) }
+    ensures within { IfOk result (λ division. SumsWithin division.totals 65535) }
     ensures division { IfOk result (Divided (reads C.Catalogue S.SkipRule reader.entry) message.entry.octets.now message.entry.imperative_end) }
 {
     let walk = Walk::start(reader, message)?;

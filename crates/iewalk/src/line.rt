@@ -29,6 +29,7 @@ impl From<Ie<'_>> for Seen {
     }
 }
 
+// By hand, as that of a line: a derived one promises nothing of its text.
 impl fmt::Display for Seen {
     ghost output = { λ x. Some (seen_text x) };
 

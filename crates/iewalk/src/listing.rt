@@ -2,7 +2,7 @@
 ghost use Rattle.std.specs.Prelude.{◌≡◌, ◌++◌, map, IfOk, string_bytes, OnOk};
 ghost use Rattle.ie_walk.specs.Reading.{reads};
 ghost use Rattle.ie_walk.specs.Runs.{left};
-ghost use Rattle.ie_walk.specs.Totals.{Within};
+ghost use Rattle.ie_walk.specs.Totals.{SumsWithin};
 ghost use Rattle.iewalk.specs.Lines.{text, ie_line, closing_line};
 ghost use Rattle.iewalk.specs.Listing.{Appends, Listing};
 
@@ -25,7 +25,7 @@ pub const LONGEST_INPUT: usize = 4096;
 
 // No `From`: the sums need their bound.
 fn last_line(division: Division) -> Line
-    requires { Within division.totals 65535 }
+    requires { SumsWithin division.totals 65535 }
     ensures { result ≡ closing_line division }
 {
     let Division { totals, unfinished } = division;
