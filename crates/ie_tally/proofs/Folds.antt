@@ -13,5 +13,8 @@ module _ {M : Type 0} {none : M} {join : M → M → M} (laws : Laws none join) 
   total_from_fold xs e = e ∙ joined_on none xs ∙ laws.left _
 
   -- and in parts
+  pub total_in_parts : {sum : M} (xs ys : List M) → sum ≡ total none join (xs ++ ys) → sum ≡ join (total none join xs) (total none join ys)
+  total_in_parts xs ys e = e ∙ total_append laws xs ys
+
   pub parts_from_fold : {sum : M} (xs ys : List M) → sum ≡ fold join none (xs ++ ys) → sum ≡ join (total none join xs) (total none join ys)
-  parts_from_fold xs ys e = total_from_fold (xs ++ ys) e ∙ total_append laws xs ys
+  parts_from_fold xs ys e = total_in_parts xs ys (total_from_fold (xs ++ ys) e)
