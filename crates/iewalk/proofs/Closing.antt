@@ -1,16 +1,17 @@
 -- The last line is that of the division.
-use Rattle.std.proofs.Common.{◌≡◌, ℕ, ◌+◌, ◌≤◌, List, [], ◌∷◌, ◌++◌, map, length, IfOk, Some, None, Ok, Err, Option, Result, ap, ◌∙◌, subst, append_assoc, arith}
+use Rattle.std.proofs.Common.{◌≡◌, ℕ, ◌+◌, ◌≤◌, List, [], ◌∷◌, ◌++◌, map, length, IfOk, Some, None, Ok, Err, Option, Result, ap, ◌∙◌, subst, append_assoc, arith, length-append, length-drop}
 use Rattle.ie_walk.specs.declared.divide.Division.{Division}
 use Rattle.ie_walk.specs.declared.divide.Totals.{Totals}
 use Rattle.ie_walk.specs.declared.faults.IeFault.{IeFault}
 use Rattle.ie_walk.specs.declared.faults.Placed.{Placed}
+use Rattle.std.specs.List.{AllByRecursion}
 use Rattle.ie_catalogue.specs.Refusals.{Refusal}
 use Rattle.ie_catalogue.specs.declared.entry.Entry.{Entry}
 use Rattle.ie_catalogue.specs.Entries.{meant}
 use Rattle.ie_walk.specs.declared.faults.MessageFault.TheVariants.{Truncated}
 use Rattle.ie_walk.specs.Cuts.{needed}
 use Rattle.ie_walk.specs.Faults.{truncated, message_refusal}
-use Rattle.ie_walk.specs.Grammar.{laid, end_to_end, tail_fault}
+use Rattle.ie_walk.specs.Grammar.{IsIe, laid, end_to_end, tail_fault}
 use Rattle.ie_walk.specs.Reading.{Reading, reading, shape}
 use Rattle.ie_walk.specs.Runs.{walked}
 use Rattle.ie_walk.specs.Totals.{ies_of, octets_of, tail_refusal, Divided}
@@ -31,9 +32,21 @@ closes_by R end (Some f) t ies (x ∷ os) e i o =
     let values = ap (λ (r : Refusal). r.values) same in
     cc
 
+each_has_one : (R : Reading) (ies : List (List ℕ)) → AllByRecursion (IsIe R) ies → length ies ≤ length (end_to_end ies)
+each_has_one R [] each = omega arith
+each_has_one R ([] ∷ ies) each = absurd each.0
+each_has_one R ((o ∷ v) ∷ ies) each = omega (arith, each_has_one R ies each.1, length-append (o ∷ v) (end_to_end ies))
+
 module _ (R : Reading) (m : List ℕ) (end : ℕ) (d : Division) (D : Divided R m end d) where
   closes : closing_line d ≡ last_line R end D.division.ies D.division.tail
   closes = closes_by R end d.unfinished d.totals D.division.ies D.division.tail D.division.ends D.all_ies D.all_octets
+
+  -- the IEs have no more octets than the message, and each has one
+  pub octets_within : octets_of d.totals ≤ length m
+  octets_within = omega (arith, D.all_octets, length-drop end m, simp length-append at (ap length D.division.only.divides.covers))
+
+  pub ies_within : ies_of d.totals ≤ length m
+  ies_within = omega (arith, D.all_ies, D.all_octets, octets_within, each_has_one R D.division.ies D.division.only.divides.each)
 
   listed : (before middle after : List ℕ) → middle ≡ before ++ text (map ie_line (walked R m end).tokens) → after ≡ middle ++ text (closing_line d ∷ []) → Listed R m end before after
   listed before middle after a b =
